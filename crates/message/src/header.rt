@@ -1,0 +1,60 @@
+// The length of a message and what is well formed: the one place where a type is taken as known.
+ghost use mathlib.Core.Path.{_≡_};
+ghost use lib.ListN.{getD};
+ghost use Rattle.message.specs.Fields.{get, numDwords, type};
+ghost use Rattle.message.specs.Types.{known};
+ghost use Rattle.message.specs.Header.{totalLength, wellFormed, whole};
+
+// The dword at i, or 0 where there is none.
+pub fn word(s: &[u32], i: usize) -> u32
+    ensures { λ r. ⌜ r ≡ getD (now (s .entry)) i 0 ⌝ }
+{
+    if i < s.len() { s[i] } else { 0 }
+}
+
+// NUM_DWORDS of a header: how many dwords follow it.
+pub fn num_dwords(header: u32) -> u32
+    ensures { λ r. ⌜ r ≡ get numDwords header ⌝ }
+{
+    header % 0x100
+}
+
+// The length L of the message that a header starts: all its dwords, the header among them.
+pub fn length(header: u32) -> usize
+    ensures { λ r. ⌜ r ≡ totalLength header ⌝ }
+{
+    1 + num_dwords(header) as usize
+}
+
+// The type in an HXG dword 0.
+pub fn hxg_type(word: u32) -> u32
+    ensures { λ r. ⌜ r ≡ get type word ⌝ }
+{
+    word / 0x1000_0000 % 8
+}
+
+// Whether the type in an HXG dword 0 is known.
+fn known_type(word: u32) -> bool
+    ensures { λ r. ⌜ r ≡ known word ⌝ }
+{
+    let t = hxg_type(word);
+    (t == 0) | (t == 1) | (t == 3) | (t == 5) | (t == 6) | (t == 7)
+}
+
+// Whether a header and an HXG dword 0 start a well-formed message.
+pub fn well_formed(header: u32, word: u32) -> bool
+    ensures { λ r. ⌜ r ≡ wellFormed header word ⌝ }
+{
+    let format = header / 0x1000 % 0x10;
+    let reserved = header / 0x100 % 0x10;
+    let n = num_dwords(header);
+    (format == 0) & (reserved == 0) & (1 <= n) & (n <= 255) & known_type(word)
+}
+
+// Whether the dwords are one whole well-formed message, exactly L of them.
+pub fn is_whole(dwords: &[u32]) -> bool
+    ensures { λ r. ⌜ r ≡ whole (now (dwords .entry)) ⌝ }
+{
+    let header = word(dwords, 0);
+    (dwords.len() == length(header)) & well_formed(header, word(dwords, 1))
+}

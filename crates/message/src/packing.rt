@@ -1,0 +1,87 @@
+// Packing: a decoded message as its header and its HXG dword 0.
+ghost use mathlib.Core.Path.{_≡_};
+ghost use mathlib.Core.Bool.{_&&_};
+ghost use Prim.Native.Nat.{_+_, _*_, _<_};
+ghost use lib.Dec.{ltb};
+ghost use Rattle.message.specs.Fields.{fit, dword};
+ghost use Rattle.message.specs.Types.{pick, bodyFields};
+ghost use Rattle.message.specs.Words.{pack as packOf, refusing, packedAnswer, originNumber};
+use crate::Body;
+use crate::Message;
+use crate::Origin;
+use crate::Packed;
+
+// The fields of a body at their places, or that one is too wide.
+enum Placed {
+    TooWide,
+    Bits(u32),
+}
+
+// A type with one field in bits 27:0.
+fn one_field(t: u32, all: u32) -> Placed
+    requires { ⌜ t < 8 ⌝ }
+    ensures { λ r. ⌜ r ≡ pick (ltb all 0x1000_0000) (Placed.Bits (t * 0x1000_0000 + all)) Placed.TooWide ⌝ }
+{
+    if all < 0x1000_0000 {
+        Placed::Bits(t * 0x1000_0000 + all)
+    } else {
+        Placed::TooWide
+    }
+}
+
+// A type with a field in bits 27:16 and one in bits 15:0.
+fn two_fields(t: u32, upper: u32, lower: u32) -> Placed
+    requires { ⌜ t < 8 ⌝ }
+    ensures { λ r. ⌜ r ≡ pick (ltb upper 0x1000 && ltb lower 0x1_0000) (Placed.Bits (t * 0x1000_0000 + upper * 0x1_0000 + lower)) Placed.TooWide ⌝ }
+{
+    if upper < 0x1000 {
+        if lower < 0x1_0000 {
+            Placed::Bits(t * 0x1000_0000 + upper * 0x1_0000 + lower)
+        } else {
+            Placed::TooWide
+        }
+    } else {
+        Placed::TooWide
+    }
+}
+
+// The type and the fields of a body.
+fn body_bits(b: Body) -> Placed
+    ensures { λ r. ⌜ r ≡ pick (fit (bodyFields b)) (Placed.Bits (dword (bodyFields b))) Placed.TooWide ⌝ }
+{
+    match b {
+        Body::Request { data, action } => two_fields(0, data, action),
+        Body::Event { data, action } => two_fields(1, data, action),
+        Body::Busy { counter } => one_field(3, counter),
+        Body::Retry { reason } => one_field(5, reason),
+        Body::Failure { hint, error } => two_fields(6, hint, error),
+        Body::Success { data } => one_field(7, data),
+    }
+}
+
+// The origin's bit.
+fn origin_bit(o: Origin) -> u32
+    ensures { λ r. ⌜ r ≡ originNumber o * 0x8000_0000 ⌝ }
+{
+    match o {
+        Origin::Host => 0,
+        Origin::Guc => 0x8000_0000,
+    }
+}
+
+// Packs a message; a field too wide for its place and NUM_DWORDS 0 are refused.
+pub fn pack(m: Message) -> Packed
+    ensures { λ r. ⌜ packedAnswer r ≡ refusing 14 (packOf m) ⌝ }
+{
+    let fence = m.fence;
+    let n = m.num_dwords;
+    let o = m.origin;
+    let b = m.body;
+    let Placed::Bits(bits) = body_bits(b) else {
+        return Packed::Unfit;
+    };
+    if (1 <= n) & (n < 0x100) & (fence < 0x1_0000) {
+        return Packed::Dwords(fence * 0x1_0000 + n, origin_bit(o) + bits);
+    }
+    Packed::Unfit
+}
