@@ -41,10 +41,12 @@ module _ (d : List ℕ) where
   whole-length e =
       eqb-true (length d) (totalLength (getD d 0 0)) (and-l (eqb (length d) (totalLength (getD d 0 0))) (wellFormed (getD d 0 0) (getD d 1 0)) e)
 
-  pub whole-well : whole d ≡ true → WellFormed (getD d 0 0) (getD d 1 0)
+  pub whole-formed : whole d ≡ true → wellFormed (getD d 0 0) (getD d 1 0) ≡ true
   unfolding whole
-  whole-well e =
-      well-formed (getD d 0 0) (getD d 1 0) (and-r (eqb (length d) (totalLength (getD d 0 0))) (wellFormed (getD d 0 0) (getD d 1 0)) e)
+  whole-formed e = and-r (eqb (length d) (totalLength (getD d 0 0))) (wellFormed (getD d 0 0) (getD d 1 0)) e
+
+  pub whole-well : whole d ≡ true → WellFormed (getD d 0 0) (getD d 1 0)
+  whole-well e = well-formed (getD d 0 0) (getD d 1 0) (whole-formed e)
 
   pub whole-i : length d ≡ totalLength (getD d 0 0) → WellFormed (getD d 0 0) (getD d 1 0) → whole d ≡ true
   unfolding whole

@@ -1,0 +1,12 @@
+-- `state::Sender::idle_at` meets its contract. Assumes nothing.
+use borrow.Author.Needs.{needs}
+use Rattle.channel.specs.State.{zeros, ofSender}
+use Rattle.channel.proofs.state.Sender.idle_at.Statement.{statement}
+use Rattle.channel.proofs.state.Sender.idle_at.Tie as tie
+
+returns : tie.Need-returns
+unfolding zeros ofSender
+returns c = search needs
+
+pub idle-at-spec : {M : Type 1} → statement M
+idle-at-spec = tie.close (tie.spec returns)

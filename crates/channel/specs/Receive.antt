@@ -1,0 +1,109 @@
+-- The steps of a receive and a whole receive (document 01, 'Steps of a send and a receive'): the number first, then the effect by it.
+use Prim.Native.Nat.{ℕ, zero, suc, _+_, _-_, _%_}
+use mathlib.Core.Bool.{Bool, _||_}
+use mathlib.Core.List.{List, [], _∷_, _++_}
+use lib.ListN.{length, getD, take, drop, set, replicate}
+use lib.Dec.{eqb, leb, ltb}
+use Rattle.message.specs.Types.{pick}
+use Rattle.message.specs.Header.{totalLength, wellFormed}
+use Rattle.channel.specs.Ring.{HEAD, head, tail, status}
+use Rattle.channel.specs.State.{State, idleAt, idle, activeReceive, header, second}
+use Rattle.channel.specs.Numbers.{need, entry, receiveFound, marked}
+use Rattle.channel.specs.Outcome.{Outcome, refused}
+
+-- 'look (read STATUS, HEAD, TAIL and, if not empty, the header, ..)': 1 to 3, then what the descriptor and the header say
+unfoldable pub lookNumber : State → List ℕ → List ℕ → ℕ
+lookNumber s d b =
+    entry (length d) (length b) (idle (length b) s)
+    (receiveFound (length b) (s .own) (status d) (head d) (tail d) (getD b (s .own) 0))
+
+-- 'the header, which counts as the first dword copied'
+abbrev pub loaded : State → ℕ → State
+loaded s h = record { n = s .n; own = s .own; len = totalLength h; moved = 1; copy = h ∷ replicate 255 0 }
+
+unfoldable pub lookBy : ℕ → State → List ℕ → List ℕ → Outcome
+lookBy c s d b =
+    record { code = c; len = 0; next = pick (eqb c 0) (loaded s (getD b (s .own) 0)) s; desc = marked c d; buf = b; out = [] }
+
+abbrev pub look : State → List ℕ → List ℕ → Outcome
+look s d b = lookBy (lookNumber s d b) s d b
+
+-- 'copy the others one a step': 12 'a move after L'
+unfoldable pub moveNumber : State → List ℕ → List ℕ → ℕ
+moveNumber s d b = entry (length d) (length b) (activeReceive (length b) s) (need (ltb (s .moved) (s .len)) 12 0)
+
+-- where the next dword lies
+abbrev pub place : State → List ℕ → ℕ
+place s b = (s .own + s .moved) % length b
+
+abbrev pub moved : State → ℕ → State
+moved s dword =
+    record { n = s .n; own = s .own; len = s .len; moved = s .moved + 1; copy = set (s .copy) (s .moved) dword }
+
+unfoldable pub moveBy : ℕ → State → List ℕ → List ℕ → Outcome
+moveBy c s d b =
+    pick (eqb c 0)
+    (record { code = 0; len = 0; next = moved s (getD b (place s b) 0); desc = d; buf = b; out = [] })
+    (refused c s d b [])
+
+abbrev pub move : State → List ℕ → List ℕ → Outcome
+move s d b = moveBy (moveNumber s d b) s d b
+
+-- 'publish HEAD = (own head + L) mod N': 5 'output shorter than 256', 12 'publish before L dwords moved', 13 'received message whole but
+-- malformed'. 'The copied message is judged at publish and the ring isn't read again for it.'
+unfoldable pub publishNumber : State → List ℕ → List ℕ → List ℕ → ℕ
+publishNumber s o d b =
+    entry (length d) (length b) (activeReceive (length b) s)
+    (need (leb 256 (length o)) 5 (need (leb (s .len) (s .moved)) 12 (need (wellFormed (header s) (second s)) 13 0)))
+
+-- the offset past the message
+abbrev pub past : State → List ℕ → ℕ
+past s b = (s .own + s .len) % length b
+
+-- 'lay the L dwords at the front of the output, the rest of it unchanged. .. Malformed: HEAD moves all the same, the output stays, the
+-- answer is 13.'
+unfoldable pub publishBy : ℕ → State → List ℕ → List ℕ → List ℕ → Outcome
+publishBy c s o d b =
+    pick (eqb c 0 || eqb c 13)
+    (record {
+      code = c;
+      len = pick (eqb c 0) (s .len) 0;
+      next = idleAt (s .n) (past s b);
+      desc = set d HEAD (past s b);
+      buf = b;
+      out = pick (eqb c 0) (take (s .len) (s .copy) ++ drop (s .len) o) o;
+    })
+    (refused c s d b o)
+
+abbrev pub publish : State → List ℕ → List ℕ → List ℕ → Outcome
+publish s o d b = publishBy (publishNumber s o d b) s o d b
+
+-- one step after another: on the state and the memory that the one before left
+abbrev pub moveAfter : Outcome → Outcome
+moveAfter x = move (x .next) (x .desc) (x .buf)
+
+abbrev pub publishAfter : List ℕ → Outcome → Outcome
+publishAfter o x = publish (x .next) o (x .desc) (x .buf)
+
+unfoldable pub moves : ℕ → Outcome → Outcome
+moves zero x = x
+moves (suc k) x = moves k (moveAfter x)
+
+-- an outcome with the output that is lent beside it
+abbrev pub beside : List ℕ → Outcome → Outcome
+beside o x = record { code = x .code; len = x .len; next = x .next; desc = x .desc; buf = x .buf; out = o }
+
+-- after the look, which moved the header: L - 1 moves and the publish
+unfoldable pub rest : List ℕ → Outcome → Outcome
+rest o x = pick (eqb (x .code) 0) (publishAfter o (moves (x .next .len - 1) x)) (beside o x)
+
+-- the numbers 1 to 5 of a whole receive
+unfoldable pub wholeNumber : State → List ℕ → List ℕ → List ℕ → ℕ
+wholeNumber s o d b = entry (length d) (length b) (idle (length b) s) (need (leb 256 (length o)) 5 0)
+
+-- 'A whole .. receive that 1 to 5 don't refuse equals its steps run one after another on the lent memory.'
+unfoldable pub wholeBy : ℕ → State → List ℕ → List ℕ → List ℕ → Outcome
+wholeBy c s o d b = pick (eqb c 0) (rest o (look s d b)) (refused c s d b o)
+
+abbrev pub whole : State → List ℕ → List ℕ → List ℕ → Outcome
+whole s o d b = wholeBy (wholeNumber s o d b) s o d b

@@ -1,0 +1,12 @@
+// One command transport buffer (CTB) in one direction: its opening, its sender and its receiver.
+mod numbers;
+mod opening;
+mod state;
+
+pub use opening::open_channel;
+pub use state::Looked;
+pub use state::Opened;
+pub use state::Received;
+pub use state::Receiver;
+pub use state::Sender;
+pub use state::Sent;

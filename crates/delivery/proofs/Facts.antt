@@ -1,0 +1,306 @@
+-- What each operation does to the plain channel's messages, to the dwords that are published and not released, and to the channel on which the
+-- ended calls are run whole.
+use mathlib.Core.Path.{_≡_, refl, sym, ap, _∙_}
+use mathlib.Core.Logic.{_≢_}
+use mathlib.Core.Bool.{true, false}
+use mathlib.Core.List.{List, [], _∷_, _++_, map, append-nil}
+use Prim.Native.Nat.{ℕ, _+_, _-_, _%_, _≤_, _<_}
+use native.Mathlib.Omega.{arith}
+use native.Mathlib.Numerals.{add-one}
+use borrow.Author.Tests.{leb-true, le-leb, eqb-false}
+use lib.ListN.{length, getD, take, drop, set}
+use lib.Seq.{take-all, take-append-seam, getD-set-other}
+use lib.Dec.{leb, eqb}
+use Rattle.message.specs.Header.{whole}
+use Rattle.message.proofs.Whole.{whole-long}
+use Rattle.channel.specs.Numbers.{need}
+use Rattle.delivery.specs.Demand.{Call, Result, Unreleased, answers, endedBy, held, publishedBy, receivedBy, result, wholes}
+use Rattle.delivery.specs.Operations.{Op, plainAnswer, plainEnd, plainRun, plainSeen, receiveLook, receiveMove, receivePublish, receiveWhole, sendLook, sendMove, sendPublish, sendWhole}
+use Rattle.delivery.specs.Plain.{Answer, Plain, Receiving, Sending, first, notReceiving, notSending, receiving, sending}
+use Rattle.delivery.specs.Plain
+use Rattle.delivery.proofs.Invariant.{Inv, bad, cases, empty-receiving, n-low, ok, plain}
+use Rattle.delivery.proofs.Ring.{apart, stores, stores-other}
+use Rattle.delivery.proofs.Wholes.{receive-whole-midcall, receive-whole-none, receive-whole-ok, receive-whole-short, refusal, roomNumber, send-whole-midcall, send-whole-ok, send-whole-refused, stores-take}
+
+-- what a send mid-call has stored
+abbrev pub done : Sending → List ℕ
+done notSending = []
+done (sending k m) = take k m
+
+-- c is the message of a send that is mid-call
+abbrev pub HoldsMessage : List ℕ → Sending → Type 0
+HoldsMessage c notSending = Unit {0}
+HoldsMessage c (sending k m) = c ≡ m
+
+-- the channel on which the ended calls were run whole, with buffer z
+abbrev pub serialOf : Plain → List ℕ → Plain
+serialOf p z = plain (p .n) z (p .queue) (p .P) (p .R) notSending notReceiving
+
+-- its buffer: what a send mid-call has stored is all that it lacks
+abbrev pub Lacks : Plain → List ℕ → Type 0
+Lacks p z = p .buf ≡ stores z (p .n) (p .P) (done (p .send))
+
+pub record RanWhole (p : Plain) (z : List ℕ) (x : Answer) (cs : List Call) : Type 0 where
+  pub z′ : List ℕ
+  pub lin : Lacks (x .next) z′
+  pub to : plainEnd (serialOf p z) (wholes cs) ≡ serialOf (x .next) z′
+  pub gave : map result (plainRun (serialOf p z) (wholes cs)) ≡ answers cs
+
+pub record StepFacts (p : Plain) (o : Op) (x : Answer) : Type 0 where
+  pub flow : (c : List ℕ) → HoldsMessage c (p .send) → p .queue ++ publishedBy c o (plainSeen x) ≡ receivedBy o (plainSeen x) ++ x .next .queue
+  pub holds : (c : List ℕ) → HoldsMessage c (p .send) → HoldsMessage (held c o (plainSeen x)) (x .next .send)
+  pub keeps : (j : ℕ) → Unreleased p j → getD (x .next .buf) j 0 ≡ getD (p .buf) j 0
+  pub ran : (c : List ℕ) → HoldsMessage c (p .send) → (e : List ℕ) → length e ≡ 256 → (z : List ℕ) → Lacks p z → RanWhole p z x (endedBy e c o (plainSeen x))
+
+-- nothing ended, nothing changed for the calls run whole
+same-run : (p : Plain) (z : List ℕ) (x : Answer) → serialOf p z ≡ serialOf (x .next) z → Lacks (x .next) z → RanWhole p z x []
+unfolding plainEnd plainRun
+same-run p z x e l = record { z′ = z; lin = l; to = e; gave = refl }
+
+-- one call ended: w, answered g
+one-run : (p : Plain) (z z′ : List ℕ) (x y : Answer) (w : Op) (g : Result) → plainAnswer (serialOf p z) w ≡ y → y .next ≡ serialOf (x .next) z′ → result (plainSeen y) ≡ g → Lacks (x .next) z′ → RanWhole p z x (record { op = w; answer = g } ∷ [])
+unfolding plainEnd plainRun
+one-run p z z′ x y w g e f h l =
+    record {
+      z′ = z′;
+      lin = l;
+      to = ap (λ (u : Answer). u .next) e ∙ f;
+      gave = ap (λ (u : Answer). result (plainSeen u) ∷ []) e ∙ ap (λ (u : Result). u ∷ []) h;
+    }
+
+-- a refusal that ends no call
+no-facts :
+    (p : Plain) (o : Op) (c : ℕ) (w : List ℕ)
+    → ((k : List ℕ) → publishedBy k o (plainSeen (refusal c w p)) ≡ []) → receivedBy o (plainSeen (refusal c w p)) ≡ [] → ((k : List ℕ) → held k o (plainSeen (refusal c w p)) ≡ k)
+    → ((e k : List ℕ) → endedBy e k o (plainSeen (refusal c w p)) ≡ []) → StepFacts p o (refusal c w p)
+no-facts p o c w s l k e =
+    record {
+      flow = λ c h. rw (s c, l) (append-nil (p .queue));
+      holds = λ c h. rw (k c) h;
+      keeps = λ j h. refl;
+      ran = λ c h d i z l. rw (e d c) (same-run p z (refusal _ w p) refl l);
+    }
+
+module _ (n : ℕ) (b : List ℕ) (q : List (List ℕ)) (P R : ℕ) where
+  -- ---- a send's look
+
+  module _ (m : List ℕ) (r : Receiving) where
+    look-yes : StepFacts (plain n b q P R notSending r) (sendLook m) (record { code = 0; len = 0; out = []; next = plain n b q P R (sending 0 m) r })
+    look-yes =
+        record {
+          flow = λ c h. append-nil q;
+          holds = λ c h. refl;
+          keeps = λ j h. refl;
+          ran = λ c h e i z l. same-run _ z _ refl l;
+        }
+
+    look-no : (c : ℕ) → roomNumber n P R m ≡ c → eqb c 0 ≡ false → eqb c 3 ≡ false → StepFacts (plain n b q P R notSending r) (sendLook m) (refusal c [] (plain n b q P R notSending r))
+    look-no c f f₀ f₃ =
+        record {
+          flow = λ c′ h. append-nil q;
+          holds = λ c′ h. tt;
+          keeps = λ j h. refl;
+          ran = λ c′ h e i z l. rw (f₀, f₃) (one-run _ z z _ _ (sendWhole m) _ (send-whole-refused n z q P R notReceiving m c f f₀) refl refl l);
+        }
+
+  -- ---- a send's move, publish and whole call
+
+  module _ (k : ℕ) (m : List ℕ) (r : Receiving) (g : Inv (plain n b q P R (sending k m) r)) where
+    move-yes : k < length m → StepFacts (plain n b q P R (sending k m) r) sendMove (record { code = 0; len = 0; out = []; next = plain n (set b ((P + k) % n) (getD m k 0)) q P R (sending (k + 1) m) r })
+    move-yes h =
+        record {
+          flow = λ c h. append-nil q;
+          holds = λ c h. h;
+          keeps =
+              λ j w. getD-set-other b ((P + k) % n) j (getD m k 0) 0 (λ e. apart n (w .i) (P + k) (omega arith) (omega (arith, g .count, g .send .fits)) (sym (w .at) ∙ e));
+          ran = λ c _ e i z l. same-run _ z _ refl (ap (λ (y : List ℕ). set y ((P + k) % n) (getD m k 0)) l ∙ stores-take z n P m k h ∙ ap (λ (x : ℕ). stores z n P (take x m)) (sym (add-one k)));
+        }
+
+    pub-yes : length m ≤ k → StepFacts (plain n b q P R (sending k m) r) sendPublish (record { code = 0; len = 0; out = []; next = plain n b (q ++ (m ∷ [])) (P + length m) R notSending r })
+    unfolding stores roomNumber
+    pub-yes h =
+        let f : leb (length m) (n - 1 - (P - R)) ≡ true = le-leb (length m) (n - 1 - (P - R)) (omega (arith, g .count, g .send .fits)) in
+        record {
+          flow = λ c i. ap (λ (y : List ℕ). q ++ (y ∷ [])) i;
+          holds = λ c i. tt;
+          keeps = λ j w. refl;
+          ran =
+              λ c i e _ z l. one-run _ z (stores z n P m) _ _ (sendWhole c) _ (ap (Plain.sendWhole (plain n z q P R notSending notReceiving)) i ∙ send-whole-ok n z q P R notReceiving m (ok 4 (g .send .is-whole) ∙ ok 10 f)) refl refl (l ∙ ap (stores z n P) (take-all k m h));
+        }
+
+  module _ (m : List ℕ) (r : Receiving) (g : Inv (plain n b q P R notSending r)) where
+    whole-yes : roomNumber n P R m ≡ 0 → length m ≤ n - 1 - (P - R) → StepFacts (plain n b q P R notSending r) (sendWhole m) (record { code = 0; len = 0; out = []; next = plain n (stores b n P m) (q ++ (m ∷ [])) (P + length m) R notSending r })
+    unfolding stores
+    whole-yes f h =
+        let z₀ : 1024 ≤ n = n-low (plain n b q P R notSending r) g in
+        record {
+          flow = λ c i. refl;
+          holds = λ c i. tt;
+          keeps = λ j w. stores-other b n P m j (λ t lo hi e. apart n (w .i) t (omega arith) (omega (arith, g .count, g .room)) (sym (w .at) ∙ e));
+          ran = λ c i e _ z l. one-run _ z (stores z n P m) _ _ (sendWhole m) _ (send-whole-ok n z q P R notReceiving m f) refl refl (ap (λ (y : List ℕ). stores y n P m) l);
+        }
+
+    whole-no : (c : ℕ) → roomNumber n P R m ≡ c → eqb c 0 ≡ false → eqb c 3 ≡ false → StepFacts (plain n b q P R notSending r) (sendWhole m) (refusal c [] (plain n b q P R notSending r))
+    whole-no c f f₀ f₃ =
+        record {
+          flow = λ c′ h. rw f₀ (append-nil q);
+          holds = λ c′ h. tt;
+          keeps = λ j h. refl;
+          ran = λ c′ h e i z l. rw f₃ (one-run _ z z _ _ (sendWhole m) _ (send-whole-refused n z q P R notReceiving m c f f₀) refl refl l);
+        }
+
+-- ---- a receive's look, move, publish and whole call
+
+module _ (n : ℕ) (b : List ℕ) (P R : ℕ) (s : Sending) where
+  r-look-none : StepFacts (plain n b [] P R s notReceiving) receiveLook (refusal 11 [] (plain n b [] P R s notReceiving))
+  r-look-none =
+      record {
+        flow = λ c h. refl;
+        holds = λ c h. h;
+        keeps = λ j h. refl;
+        ran = λ c h e i z l. one-run _ z z _ _ (receiveWhole e) _ (receive-whole-none n z P R notSending e (le-leb 256 (length e) (omega arith))) refl refl l;
+      }
+
+  r-look-yes : (q : List (List ℕ)) (k : ℕ) → StepFacts (plain n b q P R s notReceiving) receiveLook (record { code = 0; len = 0; out = []; next = plain n b q P R s (receiving k) })
+  r-look-yes q k =
+      record {
+        flow = λ c h. append-nil q;
+        holds = λ c h. h;
+        keeps = λ j h. refl;
+        ran = λ c h e i z l. same-run _ z _ refl l;
+      }
+
+  r-move-yes : (q : List (List ℕ)) (k : ℕ) → StepFacts (plain n b q P R s (receiving k)) receiveMove (record { code = 0; len = 0; out = []; next = plain n b q P R s (receiving (k + 1)) })
+  r-move-yes q k =
+      record {
+        flow = λ c h. append-nil q;
+        holds = λ c h. h;
+        keeps = λ j h. refl;
+        ran = λ c h e i z l. same-run _ z _ refl l;
+      }
+
+  module _ (o : List ℕ) (l₀ : leb 256 (length o) ≡ true) (m : List ℕ) (q : List (List ℕ)) (h₀ : 1 ≤ length m) where
+    r-pub-yes : (r : Receiving) → StepFacts (plain n b (m ∷ q) P R s r) (receivePublish o) (record { code = 0; len = length m; out = m ++ drop (length m) o; next = plain n b q P (R + length m) s notReceiving })
+    r-pub-yes r =
+        record {
+          flow = λ c h. append-nil (m ∷ q) ∙ ap (λ (y : List ℕ). y ∷ q) (sym (take-append-seam m (drop (length m) o)));
+          holds = λ c h. h;
+          keeps = λ j h. refl;
+          ran = λ c h e i z l. one-run _ z z _ _ (receiveWhole o) _ (receive-whole-ok n z P R notSending o l₀ m q h₀) refl refl l;
+        }
+
+    r-whole-yes : StepFacts (plain n b (m ∷ q) P R s notReceiving) (receiveWhole o) (record { code = 0; len = length m; out = m ++ drop (length m) o; next = plain n b q P (R + length m) s notReceiving })
+    r-whole-yes =
+        record {
+          flow = λ c h. append-nil (m ∷ q) ∙ ap (λ (y : List ℕ). y ∷ q) (sym (take-append-seam m (drop (length m) o)));
+          holds = λ c h. h;
+          keeps = λ j h. refl;
+          ran = λ c h e i z l. one-run _ z z _ _ (receiveWhole o) _ (receive-whole-ok n z P R notSending o l₀ m q h₀) refl refl l;
+        }
+
+  r-whole-none : (o : List ℕ) → leb 256 (length o) ≡ true → StepFacts (plain n b [] P R s notReceiving) (receiveWhole o) (refusal 11 o (plain n b [] P R s notReceiving))
+  r-whole-none o l₀ =
+      record {
+        flow = λ c h. refl;
+        holds = λ c h. h;
+        keeps = λ j h. refl;
+        ran = λ c h e i z l. one-run _ z z _ _ (receiveWhole o) _ (receive-whole-none n z P R notSending o l₀) refl refl l;
+      }
+
+  r-whole-short : (q : List (List ℕ)) (o : List ℕ) → leb 256 (length o) ≡ false → StepFacts (plain n b q P R s notReceiving) (receiveWhole o) (refusal 5 o (plain n b q P R s notReceiving))
+  r-whole-short q o l₀ =
+      record {
+        flow = λ c h. append-nil q;
+        holds = λ c h. h;
+        keeps = λ j h. refl;
+        ran = λ c h e i z l. one-run _ z z _ _ (receiveWhole o) _ (receive-whole-short n z q P R notSending o l₀) refl refl l;
+      }
+
+-- ---- every operation
+
+module _ (n : ℕ) (b : List ℕ) (P R : ℕ) where
+  facts-look : (q : List (List ℕ)) (r : Receiving) (m : List ℕ) (s : Sending) → Inv (plain n b q P R s r) → StepFacts (plain n b q P R s r) (sendLook m) (plainAnswer (plain n b q P R s r) (sendLook m))
+  unfolding Plain.sendLookBy Plain.sendLookNumber need roomNumber
+  facts-look q r m notSending g =
+      cases (whole m)
+      (λ f. cases (leb (length m) (n - 1 - (P - R)))
+      (λ l. rw (f, l) (look-yes n b q P R m r))
+      (λ l. rw (f, l) (look-no n b q P R m r 10 (ok 4 f ∙ bad 0 l) refl refl)))
+      (λ f. rw f (look-no n b q P R m r 4 (bad _ f) refl refl))
+  facts-look q r m (sending k m₀) g = no-facts _ _ 3 [] (λ k. refl) refl (λ k. refl) (λ e k. refl)
+
+  facts-move : (q : List (List ℕ)) (r : Receiving) (s : Sending) → Inv (plain n b q P R s r) → StepFacts (plain n b q P R s r) sendMove (plainAnswer (plain n b q P R s r) sendMove)
+  unfolding Plain.sendMoveBy Plain.sendMoveNumber need Plain.sendMoved
+  facts-move q r notSending g = no-facts _ _ 3 [] (λ k. refl) refl (λ k. refl) (λ e k. refl)
+  facts-move q r (sending k m) g =
+      cases (eqb k (length m))
+      (λ e. rw e (no-facts _ _ 12 [] (λ k. refl) refl (λ k. refl) (λ e k. refl)))
+      (λ e.
+      let d : k ≢ length m = eqb-false k (length m) e in
+      rw e (move-yes n b q P R k m r g (omega (arith, g .send .up-to))))
+
+  facts-pub : (q : List (List ℕ)) (r : Receiving) (s : Sending) → Inv (plain n b q P R s r) → StepFacts (plain n b q P R s r) sendPublish (plainAnswer (plain n b q P R s r) sendPublish)
+  unfolding Plain.sendPublishBy Plain.sendPublishNumber need Plain.sendPublished
+  facts-pub q r notSending g = no-facts _ _ 3 [] (λ k. refl) refl (λ k. refl) (λ e k. refl)
+  facts-pub q r (sending k m) g =
+      cases (leb (length m) k)
+      (λ e. rw e (pub-yes n b q P R k m r g (leb-true (length m) k e)))
+      (λ e. rw e (no-facts _ _ 12 [] (λ k. refl) refl (λ k. refl) (λ e k. refl)))
+
+  facts-whole : (q : List (List ℕ)) (r : Receiving) (m : List ℕ) (s : Sending) → Inv (plain n b q P R s r) → StepFacts (plain n b q P R s r) (sendWhole m) (plainAnswer (plain n b q P R s r) (sendWhole m))
+  unfolding roomNumber
+  facts-whole q r m notSending g =
+      cases (whole m)
+      (λ f. cases (leb (length m) (n - 1 - (P - R)))
+      (λ l. rw (send-whole-ok n b q P R r m (ok 4 f ∙ ok 10 l)) (whole-yes n b q P R m r g (ok 4 f ∙ ok 10 l) (leb-true (length m) (n - 1 - (P - R)) l)))
+      (λ l. rw (send-whole-refused n b q P R r m 10 (ok 4 f ∙ bad 0 l) refl) (whole-no n b q P R m r g 10 (ok 4 f ∙ bad 0 l) refl refl)))
+      (λ f. rw (send-whole-refused n b q P R r m 4 (bad _ f) refl) (whole-no n b q P R m r g 4 (bad _ f) refl refl))
+  facts-whole q r m (sending k m₀) g = rw (send-whole-midcall n b q P R r m k m₀) (no-facts _ _ 3 [] (λ k. refl) refl (λ k. refl) (λ e k. refl))
+
+  module _ (s : Sending) where
+    facts-r-look : (q : List (List ℕ)) (r : Receiving) → Inv (plain n b q P R s r) → StepFacts (plain n b q P R s r) receiveLook (plainAnswer (plain n b q P R s r) receiveLook)
+    unfolding Plain.receiveLookBy Plain.receiveLookNumber need
+    facts-r-look [] notReceiving g = r-look-none n b P R s
+    facts-r-look (m ∷ q) notReceiving g = r-look-yes n b P R s (m ∷ q) 1
+    facts-r-look q (receiving k) g = no-facts _ _ 3 [] (λ k. refl) refl (λ k. refl) (λ e k. refl)
+
+    facts-r-move : (q : List (List ℕ)) (r : Receiving) → Inv (plain n b q P R s r) → StepFacts (plain n b q P R s r) receiveMove (plainAnswer (plain n b q P R s r) receiveMove)
+    unfolding Plain.receiveMoveBy Plain.receiveMoveNumber need
+    facts-r-move q notReceiving g = no-facts _ _ 3 [] (λ k. refl) refl (λ k. refl) (λ e k. refl)
+    facts-r-move q (receiving k) g =
+        cases (eqb k (length (first q)))
+        (λ e. rw e (no-facts _ _ 12 [] (λ k. refl) refl (λ k. refl) (λ e k. refl)))
+        (λ e. rw e (r-move-yes n b P R s q k))
+
+    facts-r-pub : (o : List ℕ) (q : List (List ℕ)) (r : Receiving) → Inv (plain n b q P R s r) → StepFacts (plain n b q P R s r) (receivePublish o) (plainAnswer (plain n b q P R s r) (receivePublish o))
+    unfolding Plain.receivePublishBy Plain.receivePublishNumber need
+    facts-r-pub o q notReceiving g = no-facts _ _ 3 o (λ k. refl) refl (λ k. refl) (λ e k. refl)
+    facts-r-pub o [] (receiving k) g = empty-receiving k (g .receive)
+    facts-r-pub o (m ∷ q) (receiving k) g =
+        cases (leb 256 (length o))
+        (λ e. cases (leb (length m) k)
+        (λ f. rw (e, f) (r-pub-yes n b P R s o e m q (omega (arith, whole-long m (g .all-whole .0))) (receiving k)))
+        (λ f. rw (e, f) (no-facts _ _ 12 o (λ k. refl) refl (λ k. refl) (λ e k. refl))))
+        (λ e. rw e (no-facts _ _ 5 o (λ k. refl) refl (λ k. refl) (λ e k. refl)))
+
+    facts-r-whole : (o : List ℕ) (q : List (List ℕ)) (r : Receiving) → Inv (plain n b q P R s r) → StepFacts (plain n b q P R s r) (receiveWhole o) (plainAnswer (plain n b q P R s r) (receiveWhole o))
+    facts-r-whole o [] notReceiving g =
+        cases (leb 256 (length o))
+        (λ e. rw (receive-whole-none n b P R s o e) (r-whole-none n b P R s o e))
+        (λ e. rw (receive-whole-short n b [] P R s o e) (r-whole-short n b P R s [] o e))
+    facts-r-whole o (m ∷ q) notReceiving g =
+        let h : 1 ≤ length m = omega (arith, whole-long m (g .all-whole .0)) in
+        cases (leb 256 (length o))
+        (λ e. rw (receive-whole-ok n b P R s o e m q h) (r-whole-yes n b P R s o e m q h))
+        (λ e. rw (receive-whole-short n b (m ∷ q) P R s o e) (r-whole-short n b P R s (m ∷ q) o e))
+    facts-r-whole o q (receiving k) g = rw (receive-whole-midcall n b q P R s o k) (no-facts _ _ 3 o (λ k. refl) refl (λ k. refl) (λ e k. refl))
+
+pub facts : (p : Plain) → Inv p → (o : Op) → StepFacts p o (plainAnswer p o)
+facts p g (sendLook m) = facts-look (p .n) (p .buf) (p .P) (p .R) (p .queue) (p .receive) m (p .send) g
+facts p g sendMove = facts-move (p .n) (p .buf) (p .P) (p .R) (p .queue) (p .receive) (p .send) g
+facts p g sendPublish = facts-pub (p .n) (p .buf) (p .P) (p .R) (p .queue) (p .receive) (p .send) g
+facts p g (sendWhole m) = facts-whole (p .n) (p .buf) (p .P) (p .R) (p .queue) (p .receive) m (p .send) g
+facts p g receiveLook = facts-r-look (p .n) (p .buf) (p .P) (p .R) (p .send) (p .queue) (p .receive) g
+facts p g receiveMove = facts-r-move (p .n) (p .buf) (p .P) (p .R) (p .send) (p .queue) (p .receive) g
+facts p g (receivePublish o) = facts-r-pub (p .n) (p .buf) (p .P) (p .R) (p .send) o (p .queue) (p .receive) g
+facts p g (receiveWhole o) = facts-r-whole (p .n) (p .buf) (p .P) (p .R) (p .send) o (p .queue) (p .receive) g

@@ -1,0 +1,180 @@
+-- The channel's states, descriptor and buffer as a function of the plain channel, and what holds of the plain channel always.
+-- Assumes nothing.
+use mathlib.Core.Path.{_≡_, refl, sym, ap, _∙_}
+use mathlib.Core.Bool.{Bool, true, false, not, _&&_}
+use mathlib.Core.List.{List, [], _∷_, _++_}
+use Prim.Native.Nat.{ℕ, _+_, _-_, _%_, _≤_, _<_}
+use native.Mathlib.Nat.{mod-lt}
+use native.Mathlib.Omega.{arith}
+use borrow.Author.Tests.{leb-true, eqb-true, eqb-false, lt-ltb, le-ltb, le-leb, eq-eqb, ne-eqb}
+use lib.ListN.{length, getD, take, replicate}
+use lib.Dec.{ltb, leb, eqb}
+use Rattle.message.specs.Header.{totalLength, wellFormed, whole}
+use Rattle.message.proofs.Tests.{and-l, and-r}
+use Rattle.message.proofs.Whole.{whole-long}
+use Rattle.channel.specs.Ring.{allowed, head, tail, status, used}
+use Rattle.channel.specs.State.{State, zeros, idleAt, allZero, idle, activeSend, activeReceive}
+use Rattle.channel.specs.Numbers.{need, entry, found}
+use Rattle.delivery.specs.Plain.{Sending, notSending, sending, Receiving, notReceiving, receiving, Plain, descriptor, first}
+use Rattle.delivery.specs.Operations.{Channel}
+use Rattle.delivery.specs.Demand.{window}
+use Rattle.delivery.proofs.Ring.{gap, flat}
+
+-- a plain channel by its parts
+abbrev pub plain : ℕ → List ℕ → List (List ℕ) → ℕ → ℕ → Sending → Receiving → Plain
+plain n b q P R s r = record { n = n; buf = b; queue = q; P = P; R = R; send = s; receive = r }
+
+-- ---- the channel, from the plain channel
+
+abbrev pub sendState : ℕ → ℕ → Sending → State
+sendState n P notSending = idleAt n (P % n)
+sendState n P (sending k m) =
+    record { n = n; own = P % n; len = length m; moved = k; copy = m ++ replicate (256 - length m) 0 }
+
+abbrev pub receiveState : ℕ → ℕ → List ℕ → Receiving → State
+receiveState n R m notReceiving = idleAt n (R % n)
+receiveState n R m (receiving k) =
+    record { n = n; own = R % n; len = length m; moved = k; copy = take k m ++ replicate (256 - k) 0 }
+
+abbrev pub senderOf : Plain → State
+senderOf p = sendState (p .n) (p .P) (p .send)
+
+abbrev pub receiverOf : Plain → State
+receiverOf p = receiveState (p .n) (p .R) (first (p .queue)) (p .receive)
+
+abbrev pub channelOf : Plain → Channel
+channelOf p = record { sender = senderOf p; receiver = receiverOf p; desc = descriptor p; buf = p .buf }
+
+-- ---- what holds of the plain channel
+
+abbrev pub AllWhole : List (List ℕ) → Type 0
+AllWhole [] = Unit {0}
+AllWhole (m ∷ q) = (whole m ≡ true) × AllWhole q
+
+-- of a send mid-call: its message fits beside the queue, and k dwords of it lie past what is published
+pub record MidSend (n : ℕ) (b : List ℕ) (q : List (List ℕ)) (P k : ℕ) (m : List ℕ) : Type 0 where
+  pub is-whole : whole m ≡ true
+  pub up-to : k ≤ length m
+  pub fits : length (flat q) + length m < n
+  pub done : window b n P k ≡ take k m
+
+abbrev pub InvSend : ℕ → List ℕ → List (List ℕ) → ℕ → Sending → Type 0
+InvSend n b q P notSending = Unit {0}
+InvSend n b q P (sending k m) = MidSend n b q P k m
+
+-- of a receive mid-call: there is a message, and at least its header is moved
+pub record MidReceive (q : List (List ℕ)) (k : ℕ) : Type 0 where
+  pub is-whole : whole (first q) ≡ true
+  pub start : 1 ≤ k
+  pub up-to : k ≤ length (first q)
+
+abbrev pub InvReceive : List (List ℕ) → Receiving → Type 0
+InvReceive q notReceiving = Unit {0}
+InvReceive q (receiving k) = MidReceive q k
+
+-- the queue lies in the buffer from R on, and P - R is its length, below N
+pub record Inv (p : Plain) : Type 0 where
+  pub allowed-n : allowed (p .n) ≡ true
+  pub size : length (p .buf) ≡ p .n
+  pub count : p .P ≡ p .R + length (flat (p .queue))
+  pub room : length (flat (p .queue)) < p .n
+  pub in-buffer : window (p .buf) (p .n) (p .R) (length (flat (p .queue))) ≡ flat (p .queue)
+  pub all-whole : AllWhole (p .queue)
+  pub send : InvSend (p .n) (p .buf) (p .queue) (p .P) (p .send)
+  pub receive : InvReceive (p .queue) (p .receive)
+
+-- ---- tests and chains of them
+
+pub cases : {X : Type 0} (t : Bool) → (t ≡ true → X) → (t ≡ false → X) → X
+cases true f g = f refl
+cases false f g = g refl
+
+-- what is at most l and not l is below it
+pub below-is : (k l : ℕ) → k ≤ l → ltb k l ≡ not (eqb k l)
+below-is k l h =
+    cases (eqb k l)
+    (λ e. rw e (le-ltb k l (omega (arith, eqb-true k l e))))
+    (λ e. rw e (lt-ltb k l (omega (arith, eqb-false k l e))))
+
+-- a test of a chain that holds, and one that fails
+pub ok : {t : Bool} {r : ℕ} (c : ℕ) → t ≡ true → need t c r ≡ r
+unfolding need
+ok c e = rw e
+
+pub bad : {t : Bool} {c : ℕ} (r : ℕ) → t ≡ false → need t c r ≡ c
+unfolding need
+bad r e = rw e
+
+pub empty-receiving : {X : Type 0} (k : ℕ) → MidReceive [] k → X
+empty-receiving k c = absurd (omega (arith, whole-long [] (c .is-whole)))
+
+pub allowed-low : (n : ℕ) → allowed n ≡ true → 1024 ≤ n
+unfolding allowed
+allowed-low n e = leb-true 1024 n (search (and-l, and-r))
+
+-- ---- which states fit
+
+module _ (n o : ℕ) (h : o < n) where
+  made-for : (eqb n n && ltb o n) ≡ true
+  made-for = rw (eq-eqb n n refl, lt-ltb o n h)
+
+  pub idle-idle : idle n (idleAt n o) ≡ true
+  unfolding idle allZero zeros
+  idle-idle = rw made-for
+
+  pub idle-active-send : activeSend n (idleAt n o) ≡ false
+  unfolding activeSend
+  idle-active-send = rw made-for
+
+  pub idle-active-receive : activeReceive n (idleAt n o) ≡ false
+  unfolding activeReceive
+  idle-active-receive = rw made-for
+
+  pub busy-idle : (l k : ℕ) (c : List ℕ) → 1 ≤ l → idle n (record { n = n; own = o; len = l; moved = k; copy = c }) ≡ false
+  unfolding idle
+  busy-idle l k c g = rw (made-for, ne-eqb l 0 (λ e. omega arith))
+
+  pub busy-active-send :
+      (l k : ℕ) (c : List ℕ) → 2 ≤ l → l ≤ 256 → k ≤ l → l ≡ totalLength (getD c 0 0) → wellFormed (getD c 0 0) (getD c 1 0) ≡ true
+      → activeSend n (record { n = n; own = o; len = l; moved = k; copy = c }) ≡ true
+  unfolding activeSend
+  busy-active-send l k c a b d e f = rw (made-for, le-leb 2 l a, le-leb l 256 b, le-leb k l d, eq-eqb _ _ e) f
+
+  pub busy-active-receive :
+      (l k : ℕ) (c : List ℕ) → 1 ≤ l → l ≤ 256 → 1 ≤ k → k ≤ l → l ≡ totalLength (getD c 0 0)
+      → activeReceive n (record { n = n; own = o; len = l; moved = k; copy = c }) ≡ true
+  unfolding activeReceive
+  busy-active-receive l k c a b d e f =
+      rw (made-for, le-leb 1 l a, le-leb l 256 b, le-leb 1 k d, le-leb k l e) (eq-eqb _ _ f)
+
+-- ---- what every step finds in the plain channel's descriptor and buffer
+
+module _ (p : Plain) (g : Inv p) where
+  pub n-low : 1024 ≤ p .n
+  n-low = allowed-low (p .n) (g .allowed-n)
+
+  pub own-send : p .P % p .n < p .n
+  own-send = mod-lt (p .P) (omega (arith, n-low))
+
+  pub own-receive : p .R % p .n < p .n
+  own-receive = mod-lt (p .R) (omega (arith, n-low))
+
+  pub entry-ok : (t : Bool) (r : ℕ) → entry (length (descriptor p)) (length (p .buf)) t r ≡ need t 3 r
+  unfolding descriptor entry need
+  entry-ok t r = rw (g .size, g .allowed-n)
+
+  pub used-eq : used (length (p .buf)) (head (descriptor p)) (tail (descriptor p)) ≡ length (flat (p .queue))
+  unfolding used descriptor
+  used-eq = rw (g .size, g .count) (gap (p .n) (p .R) (length (flat (p .queue))) (g .room))
+
+  pub found-send :
+      (r : ℕ)
+      → found (length (p .buf)) (p .P % p .n) (tail (descriptor p)) (status (descriptor p)) (head (descriptor p)) (tail (descriptor p)) r ≡ r
+  unfolding descriptor found need
+  found-send r = rw (g .size, lt-ltb _ _ own-receive, lt-ltb _ _ own-send, eq-eqb (p .P % p .n) (p .P % p .n) refl)
+
+  pub found-receive :
+      (r : ℕ)
+      → found (length (p .buf)) (p .R % p .n) (head (descriptor p)) (status (descriptor p)) (head (descriptor p)) (tail (descriptor p)) r ≡ r
+  unfolding descriptor found need
+  found-receive r = rw (g .size, lt-ltb _ _ own-receive, lt-ltb _ _ own-send, eq-eqb (p .R % p .n) (p .R % p .n) refl)

@@ -1,0 +1,246 @@
+-- Each step of a send, and a whole send, answers as the plain channel does, and keeps the invariant. Assumes nothing.
+use mathlib.Core.Path.{_≡_, refl, sym, ap, _∙_}
+use mathlib.Core.Logic.{_≢_}
+use mathlib.Core.Bool.{Bool, true, false}
+use mathlib.Core.List.{List, [], _∷_, _++_}
+use Prim.Native.Nat.{ℕ, zero, suc, _+_, _-_, _%_, _≤_, _<_}
+use native.Mathlib.Nat.{mod-lt, mod-add-mod}
+use native.Mathlib.Omega.{arith}
+use native.Mathlib.Numerals.{add-one}
+use borrow.Author.Tests.{leb-true, eqb-false}
+use lib.ListN.{length, getD, take, set, replicate, List·getD-append, length-set, length-append}
+use lib.Seq.{getD-set-same, take-suc, take-all}
+use lib.Dec.{leb, eqb}
+use Rattle.message.specs.Header.{totalLength, whole}
+use Rattle.message.proofs.Whole.{whole-formed, whole-length, whole-long, whole-short}
+use Rattle.channel.specs.Numbers.{marked, need, sendFound}
+use Rattle.channel.specs.Outcome.{Outcome}
+use Rattle.channel.specs.Ring.{free, head, tail}
+use Rattle.channel.specs.State.{activeSend, idle}
+use Rattle.channel.specs.Send
+use Rattle.delivery.specs.Demand.{window}
+use Rattle.delivery.specs.Plain.{Answer, Plain, Receiving, Sending, descriptor, first, notReceiving, notSending, receiving, sending}
+use Rattle.delivery.specs.Plain
+use Rattle.delivery.proofs.Invariant.{AllWhole, Inv, InvReceive, bad, below-is, busy-active-send, busy-idle, cases, empty-receiving, entry-ok, found-send, idle-active-send, idle-idle, n-low, ok, own-send, plain, receiveState, receiverOf, sendState, senderOf, used-eq}
+use Rattle.delivery.proofs.Ring.{apart, flat, flat-snoc, window-append, window-set}
+
+abbrev pub asSender : Answer → Outcome
+asSender x =
+    record { code = x .code; len = x .len; next = senderOf (x .next); desc = descriptor (x .next); buf = x .next .buf; out = x .out }
+
+pub record SendSim (p : Plain) (a : Outcome) (x : Answer) : Type 0 where
+  pub same : a ≡ asSender x
+  pub other : receiverOf (x .next) ≡ receiverOf p
+  pub good : Inv (x .next)
+
+module _ (n : ℕ) (b : List ℕ) (q : List (List ℕ)) (P R : ℕ) (r : Receiving) where
+  -- ---- look
+
+  fits-idle : Inv (plain n b q P R notSending r) → idle (length b) (sendState n P notSending) ≡ true
+  fits-idle g = rw (g .size) (idle-idle n (P % n) (own-send _ g))
+
+  fits-not : (k : ℕ) (m : List ℕ) → Inv (plain n b q P R (sending k m) r) → idle (length b) (sendState n P (sending k m)) ≡ false
+  fits-not k m g = rw (g .size) (busy-idle n (P % n) (own-send _ g) (length m) k _ (omega (arith, whole-long m (g .send .is-whole))))
+
+  free-eq : (s : Sending) (g : Inv (plain n b q P R s r)) → free (length b) (head (descriptor (plain n b q P R s r))) (tail (descriptor (plain n b q P R s r))) ≡ n - 1 - (P - R)
+  unfolding free
+  free-eq s g = rw (used-eq _ g, g .size) (omega (arith, g .count))
+
+  look-code :
+      (s : Sending) (m : List ℕ) → Inv (plain n b q P R s r)
+      → Send.lookNumber (sendState n P s) m (descriptor (plain n b q P R s r)) b ≡ Plain.sendLookNumber (plain n b q P R s r) m
+  unfolding Send.lookNumber sendFound Plain.sendLookNumber
+  look-code notSending m g =
+      entry-ok _ g _ _ ∙ ok 3 (fits-idle g) ∙ ap (need (whole m) 4) (found-send _ g _ ∙ ap (λ (x : ℕ). need (leb (length m) x) 10 0) (free-eq notSending g))
+  look-code (sending k m₀) m g = entry-ok _ g _ _ ∙ bad _ (fits-not k m₀ g)
+
+  sim-look : (s : Sending) (m : List ℕ) → Inv (plain n b q P R s r) → SendSim (plain n b q P R s r) (Send.look (sendState n P s) m (descriptor (plain n b q P R s r)) b) (Plain.sendLook (plain n b q P R s r) m)
+  unfolding Send.lookBy marked Plain.sendLookBy Plain.sendLookNumber descriptor need window
+  sim-look notSending m g =
+      rw (look-code notSending m g)
+      (cases (whole m)
+      (λ f. cases (leb (length m) (n - 1 - (P - R)))
+      (λ l. rw (f, l)
+      (record {
+        same = refl;
+        other = refl;
+        good =
+            record {
+              allowed-n = g .allowed-n;
+              size = g .size;
+              count = g .count;
+              room = g .room;
+              in-buffer = g .in-buffer;
+              all-whole = g .all-whole;
+              send =
+                  record {
+                    is-whole = f;
+                    up-to = omega arith;
+                    fits = omega (arith, leb-true (length m) (n - 1 - (P - R)) l, g .count, n-low (plain n b q P R notSending r) g);
+                    done = refl;
+                  };
+              receive = g .receive;
+            };
+      }))
+      (λ l. rw (f, l) (record { same = refl; other = refl; good = g })))
+      (λ f. rw f (record { same = refl; other = refl; good = g })))
+  sim-look (sending k m₀) m g = rw (look-code (sending k m₀) m g) (record { same = refl; other = refl; good = g })
+
+  -- ---- move
+
+  fits-active : (k : ℕ) (m : List ℕ) → Inv (plain n b q P R (sending k m) r) → activeSend (length b) (sendState n P (sending k m)) ≡ true
+  fits-active k m g =
+      let f : whole m ≡ true = g .send .is-whole in
+      let l : 2 ≤ length m = whole-long m f in
+      let z : List ℕ = replicate (256 - length m) 0 in
+      let e₀ : getD (m ++ z) 0 0 ≡ getD m 0 0 = List·getD-append m z 0 0 (omega arith) in
+      let e₁ : getD (m ++ z) 1 0 ≡ getD m 1 0 = List·getD-append m z 0 1 (omega arith) in
+      rw (g .size)
+      (busy-active-send n (P % n) (own-send _ g) (length m) k (m ++ z) l (whole-short m f) (g .send .up-to) (whole-length m f ∙ ap totalLength (sym e₀)) (rw (e₀, e₁) (whole-formed m f)))
+
+  fits-not-active : Inv (plain n b q P R notSending r) → activeSend (length b) (sendState n P notSending) ≡ false
+  fits-not-active g = rw (g .size) (idle-active-send n (P % n) (own-send _ g))
+
+  move-code : (s : Sending) → Inv (plain n b q P R s r) → Send.moveNumber (sendState n P s) (descriptor (plain n b q P R s r)) b ≡ Plain.sendMoveNumber (plain n b q P R s r)
+  unfolding Send.moveNumber Plain.sendMoveNumber
+  move-code notSending g = entry-ok _ g _ _ ∙ bad _ (fits-not-active g)
+  move-code (sending k m) g =
+      entry-ok _ g _ _ ∙ ok 3 (fits-active k m g) ∙ ap (λ (t : Bool). need t 12 0) (below-is k (length m) (g .send .up-to))
+
+  -- the store, and what it leaves: `v` for the dword stored
+  module _ (k : ℕ) (m : List ℕ) (g : Inv (plain n b q P R (sending k m) r)) (h : k < length m) where
+    store-eq : set b ((P % n + k) % length b) (getD (m ++ replicate (256 - length m) 0) k 0) ≡ set b ((P + k) % n) (getD m k 0)
+    store-eq = rw (g .size, mod-add-mod, List·getD-append m (replicate (256 - length m) 0) 0 k h)
+
+    store-held : window (set b ((P + k) % n) (getD m k 0)) n R (length (flat q)) ≡ flat q
+    store-held =
+        window-set b n R (length (flat q)) ((P + k) % n) (getD m k 0) (λ t lo hi. apart n t (P + k) (omega (arith, g .count)) (omega (arith, g .count, g .send .fits))) ∙ g .in-buffer
+
+    store-done : window (set b ((P + k) % n) (getD m k 0)) n P (k + 1) ≡ take (k + 1) m
+    unfolding window
+    store-done =
+        let c : List ℕ = set b ((P + k) % n) (getD m k 0) in
+        let o : (P + k) % n < length b = rw (g .size) (mod-lt (P + k) (omega (arith, n-low (plain n b q P R (sending k m) r) g))) in
+        let w : window c n P k ≡ take k m = window-set b n P k ((P + k) % n) (getD m k 0) (λ t lo hi. apart n t (P + k) (omega arith) (omega (arith, g .send .fits))) ∙ g .send .done in
+        let v : getD c ((P + k) % n) 0 ≡ getD m k 0 = getD-set-same b ((P + k) % n) (getD m k 0) 0 o in
+        window-append c n P k 1 ∙ (λ i. w i ++ (v i ∷ [])) ∙ sym (take-suc m k 0 h) ∙ ap (λ (x : ℕ). take x m) (sym (add-one k))
+
+    store-good : Inv (plain n (set b ((P + k) % n) (getD m k 0)) q P R (sending (k + 1) m) r)
+    store-good =
+        record {
+          allowed-n = g .allowed-n;
+          size = length-set b _ _ ∙ g .size;
+          count = g .count;
+          room = g .room;
+          in-buffer = store-held;
+          all-whole = g .all-whole;
+          send = record { is-whole = g .send .is-whole; up-to = omega arith; fits = g .send .fits; done = store-done };
+          receive = g .receive;
+        }
+
+  sim-move : (s : Sending) → Inv (plain n b q P R s r) → SendSim (plain n b q P R s r) (Send.move (sendState n P s) (descriptor (plain n b q P R s r)) b) (Plain.sendMove (plain n b q P R s r))
+  unfolding Send.moveBy Plain.sendMoveBy Plain.sendMoveNumber Plain.sendMoved descriptor need
+  sim-move notSending g = rw (move-code notSending g) (record { same = refl; other = refl; good = g })
+  sim-move (sending k m) g =
+      rw (move-code (sending k m) g)
+      (cases (eqb k (length m))
+      (λ e. rw e (record { same = refl; other = refl; good = g }))
+      (λ e.
+      let d : k ≢ length m = eqb-false k (length m) e in
+      let h : k < length m = omega (arith, g .send .up-to) in
+      rw e (record { same = rw (store-eq k m g h); other = refl; good = store-good k m g h })))
+
+  -- ---- publish
+
+  pub-code : (s : Sending) → Inv (plain n b q P R s r) → Send.publishNumber (sendState n P s) (descriptor (plain n b q P R s r)) b ≡ Plain.sendPublishNumber (plain n b q P R s r)
+  unfolding Send.publishNumber Plain.sendPublishNumber
+  pub-code notSending g = entry-ok _ g _ _ ∙ bad _ (fits-not-active g)
+  pub-code (sending k m) g = entry-ok _ g _ _ ∙ ok 3 (fits-active k m g)
+
+  snoc-formed : (u : List (List ℕ)) (m : List ℕ) → AllWhole u → whole m ≡ true → AllWhole (u ++ (m ∷ []))
+  snoc-formed [] m a f = (f, tt)
+  snoc-formed (x ∷ u) m a f = (a .0, snoc-formed u m (a .1) f)
+
+  snoc-r : (u : List (List ℕ)) (m : List ℕ) (x : Receiving) → InvReceive u x → InvReceive (u ++ (m ∷ [])) x
+  snoc-r u m notReceiving c = tt
+  snoc-r [] m (receiving k) c = empty-receiving k c
+  snoc-r (y ∷ u) m (receiving k) c = record { is-whole = c .is-whole; start = c .start; up-to = c .up-to }
+
+  snoc-other : (u : List (List ℕ)) (m : List ℕ) (x : Receiving) → InvReceive u x → receiveState n R (first (u ++ (m ∷ []))) x ≡ receiveState n R (first u) x
+  snoc-other u m notReceiving c = refl
+  snoc-other [] m (receiving k) c = empty-receiving k c
+  snoc-other (y ∷ u) m (receiving k) c = refl
+
+  module _ (k : ℕ) (m : List ℕ) (g : Inv (plain n b q P R (sending k m) r)) (h : length m ≤ k) where
+    pub-own : (P % n + length m) % length b ≡ (P + length m) % n
+    pub-own = rw (g .size, mod-add-mod)
+
+    pub-size : length (flat (q ++ (m ∷ []))) ≡ length (flat q) + length m
+    pub-size = rw (flat-snoc, length-append)
+
+    pub-held : window b n R (length (flat (q ++ (m ∷ [])))) ≡ flat (q ++ (m ∷ []))
+    pub-held =
+        let e : k ≡ length m = omega (arith, g .send .up-to) in
+        let d : window b n P (length m) ≡ take (length m) m = rw e at (g .send .done) in
+        let w : window b n (R + length (flat q)) (length m) ≡ m = ap (λ (x : ℕ). window b n x (length m)) (sym (g .count)) ∙ d ∙ take-all (length m) m (omega arith) in
+        rw (pub-size, flat-snoc) (window-append b n R (length (flat q)) (length m) ∙ (λ i. g .in-buffer i ++ w i))
+
+    pub-good : Inv (plain n b (q ++ (m ∷ [])) (P + length m) R notSending r)
+    pub-good =
+        record {
+          allowed-n = g .allowed-n;
+          size = g .size;
+          count = rw pub-size (omega (arith, g .count));
+          room = rw pub-size (g .send .fits);
+          in-buffer = pub-held;
+          all-whole = snoc-formed q m (g .all-whole) (g .send .is-whole);
+          send = tt;
+          receive = snoc-r q m r (g .receive);
+        }
+
+  sim-pub : (s : Sending) → Inv (plain n b q P R s r) → SendSim (plain n b q P R s r) (Send.publish (sendState n P s) (descriptor (plain n b q P R s r)) b) (Plain.sendPublish (plain n b q P R s r))
+  unfolding Send.publishBy Plain.sendPublishBy Plain.sendPublishNumber Plain.sendPublished descriptor need
+  sim-pub notSending g = rw (pub-code notSending g) (record { same = refl; other = refl; good = g })
+  sim-pub (sending k m) g =
+      rw (pub-code (sending k m) g)
+      (cases (leb (length m) k)
+      (λ e.
+      let h : length m ≤ k = leb-true (length m) k e in
+      rw e (record { same = rw (pub-own k m g h); other = snoc-other q m r (g .receive); good = pub-good k m g h }))
+      (λ e. rw e (record { same = refl; other = refl; good = g })))
+
+-- ---- over the plain channel as it stands
+
+module _ (p : Plain) (g : Inv p) where
+  pub look-sim : (m : List ℕ) → SendSim p (Send.look (senderOf p) m (descriptor p) (p .buf)) (Plain.sendLook p m)
+  look-sim m = sim-look (p .n) (p .buf) (p .queue) (p .P) (p .R) (p .receive) (p .send) m g
+
+  pub move-sim : SendSim p (Send.move (senderOf p) (descriptor p) (p .buf)) (Plain.sendMove p)
+  move-sim = sim-move (p .n) (p .buf) (p .queue) (p .P) (p .R) (p .receive) (p .send) g
+
+  pub pub-sim : SendSim p (Send.publish (senderOf p) (descriptor p) (p .buf)) (Plain.sendPublish p)
+  pub-sim = sim-pub (p .n) (p .buf) (p .queue) (p .P) (p .R) (p .receive) (p .send) g
+
+-- ---- a whole send
+
+pub moves-sim : (k : ℕ) (x : Answer) → Inv (x .next) → SendSim (x .next) (Send.moves k (asSender x)) (Plain.sendMoves k x)
+unfolding Send.moves Plain.sendMoves
+moves-sim zero x g = record { same = refl; other = refl; good = g }
+moves-sim (suc k) x g =
+    let h : SendSim (x .next) _ (Plain.sendMove (x .next)) = move-sim (x .next) g in
+    let i : SendSim (Plain.sendMove (x .next) .next) _ (Plain.sendMoves k (Plain.sendMove (x .next))) = moves-sim k (Plain.sendMove (x .next)) (h .good) in
+    record { same = ap (Send.moves k) (h .same) ∙ i .same; other = i .other ∙ h .other; good = i .good }
+
+whole-from : (p : Plain) (l : ℕ) (a : Outcome) (x : Answer) → SendSim p a x → SendSim p (Send.rest l a) (Plain.sendRest l x)
+unfolding Send.rest Plain.sendRest
+whole-from p l a x f =
+    let w : SendSim (x .next) (Send.moves l (asSender x)) (Plain.sendMoves l x) = moves-sim l x (f .good) in
+    let y : Plain = Plain.sendMoves l x .next in
+    let v : SendSim y (Send.publish (senderOf y) (descriptor y) (y .buf)) (Plain.sendPublish y) = pub-sim y (w .good) in
+    rw (f .same)
+    (cases (eqb (x .code) 0)
+    (λ e. rw e (record { same = ap Send.publishAfter (w .same) ∙ v .same; other = v .other ∙ w .other ∙ f .other; good = v .good }))
+    (λ e. rw e (record { same = refl; other = f .other; good = f .good })))
+
+pub whole-sim : (p : Plain) → Inv p → (m : List ℕ) → SendSim p (Send.whole (senderOf p) m (descriptor p) (p .buf)) (Plain.sendWhole p m)
+whole-sim p g m = whole-from p (length m) _ _ (look-sim p g m)

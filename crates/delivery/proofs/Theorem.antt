@@ -1,0 +1,210 @@
+-- Demand 3.
+use mathlib.Core.Path.{_≡_, refl, sym, ap, _∙_}
+use mathlib.Core.Logic.{_≢_}
+use mathlib.Core.Bool.{true}
+use mathlib.Core.List.{List, [], _∷_, _++_, map, append-assoc, append-nil, map-append}
+use Prim.Native.Nat.{ℕ, zero, suc, _+_, _-_, _%_, _≤_, _<_}
+use native.Mathlib.Nat.{mod-add-mod, mod-mod}
+use native.Mathlib.Omega.{arith}
+use borrow.Author.Tests.{leb-true, eqb-false}
+use lib.ListN.{length, getD, take, length-append}
+use lib.Seq.{take-at, drop-at}
+use lib.Dec.{leb, eqb}
+use Rattle.message.specs.Header.{totalLength, whole}
+use Rattle.message.proofs.Whole.{whole-length, whole-long}
+use Rattle.channel.specs.Numbers.{need}
+use Rattle.channel.specs.Outcome.{Outcome}
+use Rattle.channel.specs.Ring.{allowed}
+use Rattle.channel.specs.Send
+use Rattle.delivery.specs.Demand.{Call, Demand3, Serial, StoresAt, Unreleased, answers, cut, ended, endedBy, held, midway, published, publishedBy, received, receivedBy, result, unread, wholes, window}
+use Rattle.delivery.specs.Operations.{Channel, Op, Seen, after, end, plainAnswer, plainEnd, plainRun, plainSeen, receiveLook, receiveMove, receivePublish, receiveWhole, run, sendLook, sendMove, sendPublish, sendWhole}
+use Rattle.delivery.specs.Plain.{Answer, Plain, Receiving, Sending, descriptor, fresh, notSending, sending}
+use Rattle.delivery.specs.Plain
+use Rattle.delivery.proofs.Facts.{HoldsMessage, Lacks, RanWhole, StepFacts, facts, serialOf}
+use Rattle.delivery.proofs.Invariant.{AllWhole, Inv, bad, cases, channelOf, ok, plain, sendState, senderOf, used-eq}
+use Rattle.delivery.proofs.Ring.{apart, flat, stores, window-mod}
+use Rattle.delivery.proofs.SendSteps.{SendSim, asSender}
+use Rattle.delivery.proofs.Simulation.{begin-eq, end-good, end-sim, fresh-good, open-code, run-sim, step-sim}
+use Rattle.delivery.proofs.Wholes.{roomNumber, send-moves, send-whole-midcall, send-whole-refused}
+use Rattle.delivery.proofs.SendSteps
+
+-- ---- messages
+
+pub flow-run : (list : List Op) (p : Plain) → Inv p → (c : List ℕ) → HoldsMessage c (p .send) → p .queue ++ published c list (plainRun p list) ≡ received list (plainRun p list) ++ plainEnd p list .queue
+unfolding published received plainRun plainEnd
+flow-run [] p g c h = append-nil (p .queue)
+flow-run (o ∷ os) p g c h =
+    let f : StepFacts p o (plainAnswer p o) = facts p g o in
+    let x : Plain = plainAnswer p o .next in
+    let a : Seen = plainSeen (plainAnswer p o) in
+    let i : x .queue ++ published (held c o a) os (plainRun x os) ≡ received os (plainRun x os) ++ plainEnd x os .queue = flow-run os x (step-sim p g o .good) (held c o a) (f .holds c h) in
+    sym (append-assoc (p .queue) (publishedBy c o a) _) ∙ ap (λ (l : List (List ℕ)). l ++ published (held c o a) os (plainRun x os)) (f .flow c h) ∙ append-assoc (receivedBy o a) (x .queue) _ ∙ ap (λ (l : List (List ℕ)). receivedBy o a ++ l) i ∙ sym (append-assoc (receivedBy o a) (received os (plainRun x os)) (plainEnd x os .queue))
+
+cut-flat : (f : ℕ) (q : List (List ℕ)) → AllWhole q → length (flat q) ≤ f → cut f (flat q) ≡ q
+unfolding cut flat
+cut-flat zero [] a h = refl
+cut-flat (suc f) [] a h = refl
+cut-flat f ([] ∷ q) a h = absurd (omega (arith, whole-long [] (a .0)))
+cut-flat zero ((x ∷ m) ∷ q) a h = absurd (omega arith)
+cut-flat (suc f) ((x ∷ m) ∷ q) a h =
+    let e : length (x ∷ m) ≡ totalLength x = whole-length (x ∷ m) (a .0) in
+    let l : length (flat q) ≤ f = omega (arith, length-append m (flat q)) in
+    λ i. take-at (x ∷ m) (flat q) (totalLength x) e i ∷ (ap (cut f) (drop-at (x ∷ m) (flat q) (totalLength x) e) ∙ cut-flat f q (a .1) l) i
+
+unread-queue : (p : Plain) → Inv p → unread (descriptor p) (p .buf) ≡ p .queue
+unfolding unread descriptor
+unread-queue p g =
+    let e : window (p .buf) (p .n) (p .R % p .n) (length (flat (p .queue))) ≡ flat (p .queue) = window-mod (p .buf) (p .n) (p .R % p .n) (p .R) (length (flat (p .queue))) (mod-mod (p .R) (p .n)) ∙ g .in-buffer in
+    rw (used-eq p g, g .size, e) (cut-flat (p .n) (p .queue) (g .all-whole) (omega (arith, g .room)))
+
+-- ---- the calls that ended, run whole
+
+prun-append : (xs ys : List Op) (p : Plain) → plainRun p (xs ++ ys) ≡ plainRun p xs ++ plainRun (plainEnd p xs) ys
+unfolding plainRun plainEnd
+prun-append [] ys p = refl
+prun-append (o ∷ xs) ys p = ap (λ (l : List Seen). plainSeen (plainAnswer p o) ∷ l) (prun-append xs ys (plainAnswer p o .next))
+
+pend-append : (xs ys : List Op) (p : Plain) → plainEnd p (xs ++ ys) ≡ plainEnd (plainEnd p xs) ys
+unfolding plainEnd
+pend-append [] ys p = refl
+pend-append (o ∷ xs) ys p = pend-append xs ys (plainAnswer p o .next)
+
+pub record RunWhole (p : Plain) (z : List ℕ) (y : Plain) (cs : List Call) : Type 0 where
+  pub z′ : List ℕ
+  pub lin : Lacks y z′
+  pub to : plainEnd (serialOf p z) (wholes cs) ≡ serialOf y z′
+  pub gave : map result (plainRun (serialOf p z) (wholes cs)) ≡ answers cs
+
+chain : (p : Plain) (z : List ℕ) (x : Answer) (cs : List Call) (y : Plain) (ds : List Call) (f : RanWhole p z x cs) → RunWhole (x .next) (f .z′) y ds → RunWhole p z y (cs ++ ds)
+chain p z x cs y ds f r =
+    let e : wholes (cs ++ ds) ≡ wholes cs ++ wholes ds = map-append _ cs ds in
+    record {
+      z′ = r .z′;
+      lin = r .lin;
+      to = ap (plainEnd (serialOf p z)) e ∙ pend-append (wholes cs) (wholes ds) (serialOf p z) ∙ ap (λ (u : Plain). plainEnd u (wholes ds)) (f .to) ∙ r .to;
+      gave =
+          ap (λ (l : List Op). map result (plainRun (serialOf p z) l)) e ∙ ap (map result) (prun-append (wholes cs) (wholes ds) (serialOf p z)) ∙ map-append _ (plainRun (serialOf p z) (wholes cs)) _ ∙ (λ i. f .gave i ++ (ap (λ (u : Plain). map result (plainRun u (wholes ds))) (f .to) ∙ r .gave) i) ∙ sym (map-append _ cs ds);
+    }
+
+module _ (any : ℕ → List ℕ) (any-len : (i : ℕ) → length (any i) ≡ 256) where
+  serial-run : (list : List Op) (p : Plain) → Inv p → (c : List ℕ) → HoldsMessage c (p .send) → (z : List ℕ) → Lacks p z → RunWhole p z (plainEnd p list) (ended any c list (plainRun p list))
+  unfolding ended plainRun plainEnd
+  serial-run [] p g c h z l = record { z′ = z; lin = l; to = refl; gave = refl }
+  serial-run (o ∷ os) p g c h z l =
+      let f : StepFacts p o (plainAnswer p o) = facts p g o in
+      let r : RanWhole p z (plainAnswer p o) (endedBy (any (length os)) c o (plainSeen (plainAnswer p o))) = f .ran c h (any (length os)) (any-len (length os)) z l in
+      chain p z (plainAnswer p o) _ _ _ r (serial-run os (plainAnswer p o .next) (step-sim p g o .good) (held c o (plainSeen (plainAnswer p o))) (f .holds c h) (r .z′) (r .lin))
+
+-- ---- stores
+
+module _ (n : ℕ) (b : List ℕ) (q : List (List ℕ)) (P R : ℕ) (r : Receiving) (j : ℕ) where
+  -- place (P + k) mod N, where L dwords fit and k is below L, is not one that is held
+  clear : (s : Sending) → Inv (plain n b q P R s r) → (k l : ℕ) → k < l → length (flat q) + l < n → Unreleased (plain n b q P R s r) j → j ≡ (P % n + k) % n → ⊥
+  clear s g k l h f w e =
+      apart n (w .i) (P + k) (omega arith) (omega (arith, g .count)) (sym (w .at) ∙ e ∙ mod-add-mod P n k)
+
+  move-safe : (s : Sending) → Inv (plain n b q P R s r) → Plain.sendMoveNumber (plain n b q P R s r) ≡ 0 → Unreleased (plain n b q P R s r) j → j ≡ Send.place (sendState n P s) b → ⊥
+  unfolding Plain.sendMoveNumber need
+  move-safe notSending g e w f = omega arith
+  move-safe (sending k m) g e w f =
+      cases (eqb k (length m))
+      (λ t. let z : _≡_ {A = ℕ} 12 0 = rw t at e in omega arith)
+      (λ t.
+      let d : k ≢ length m = eqb-false k (length m) t in
+      clear (sending k m) g k (length m) (omega (arith, g .send .up-to)) (g .send .fits) w (rw (g .size) at f))
+
+  -- midway through a whole send
+  midway-place :
+      (m : List ℕ) → Inv (plain n b q P R notSending r) → whole m ≡ true → leb (length m) (n - 1 - (P - R)) ≡ true → (k : ℕ) → k < length m
+      → Send.place (midway (channelOf (plain n b q P R notSending r)) m k .next) (midway (channelOf (plain n b q P R notSending r)) m k .buf) ≡ (P % n + k) % n
+  unfolding Plain.sendLookBy Plain.sendLookNumber need
+  midway-place m g t u k h =
+      let p : Plain = plain n b q P R notSending r in
+      let l : SendSim p (Send.look (sendState n P notSending) m (descriptor p) b) (Plain.sendLook p m) = SendSteps.look-sim p g m in
+      let w : SendSim (Plain.sendLook p m .next) (Send.moves k (asSender (Plain.sendLook p m))) (Plain.sendMoves k (Plain.sendLook p m)) = SendSteps.moves-sim k (Plain.sendLook p m) (l .good) in
+      let y : Plain.sendMoves k (Plain.sendLook p m) .next ≡ plain n (stores b n P (take k m)) q P R (sending k m) r = send-moves n b q P R r m k (Plain.sendLook p m) (omega arith) (rw (t, u)) in
+      let z : length (stores b n P (take k m)) ≡ n = sym (ap (λ (v : Plain). length (v .buf)) y) ∙ w .good .size ∙ ap (λ (v : Plain). v .n) y in
+      ap (λ (a : Outcome). Send.place (a .next) (a .buf)) (ap (Send.moves k) (l .same) ∙ w .same) ∙ ap (λ (v : Plain). Send.place (senderOf v) (v .buf)) y ∙ ap (λ (x : ℕ). (P % n + k) % x) z
+
+  whole-safe : (s : Sending) (m : List ℕ) → Inv (plain n b q P R s r) → Plain.sendWhole (plain n b q P R s r) m .code ≡ 0 → Unreleased (plain n b q P R s r) j → (k : ℕ) → k < length m → j ≡ Send.place (midway (channelOf (plain n b q P R s r)) m k .next) (midway (channelOf (plain n b q P R s r)) m k .buf) → ⊥
+  unfolding roomNumber
+  whole-safe notSending m g e w k h f =
+      cases (whole m)
+      (λ t. cases (leb (length m) (n - 1 - (P - R)))
+      (λ u.
+      let v : length m ≤ n - 1 - (P - R) = leb-true (length m) (n - 1 - (P - R)) u in
+      clear notSending g k (length m) h (omega (arith, g .count, g .room)) w (f ∙ midway-place m g t u k h))
+      (λ u. let z : _≡_ {A = ℕ} 10 0 = sym (ap (λ (x : Answer). x .code) (send-whole-refused n b q P R r m 10 (ok 4 t ∙ bad 0 u) refl)) ∙ e in omega arith))
+      (λ t. let z : _≡_ {A = ℕ} 4 0 = sym (ap (λ (x : Answer). x .code) (send-whole-refused n b q P R r m 4 (bad _ t) refl)) ∙ e in omega arith)
+  whole-safe (sending k₀ m₀) m g e w k h f =
+      let z : _≡_ {A = ℕ} 3 0 = sym (ap (λ (x : Answer). x .code) (send-whole-midcall n b q P R r m k₀ m₀)) ∙ e in omega arith
+
+no-store : (p : Plain) → Inv p → (o : Op) (j : ℕ) → Unreleased p j → StoresAt (channelOf p) o j → ⊥
+unfolding Plain.sendMoveBy
+no-store p g (sendLook m) j w s = s
+no-store p g sendMove j w s =
+    move-safe (p .n) (p .buf) (p .queue) (p .P) (p .R) (p .receive) j (p .send) g (sym (ap (λ (x : Seen). x .code) (step-sim p g sendMove .same)) ∙ s .0) w (s .1)
+no-store p g sendPublish j w s = s
+no-store p g (sendWhole m) j w s =
+    whole-safe (p .n) (p .buf) (p .queue) (p .P) (p .R) (p .receive) j (p .send) m g (sym (ap (λ (x : Seen). x .code) (step-sim p g (sendWhole m) .same)) ∙ s .0) w (s .1) (s .2) (s .3)
+no-store p g receiveLook j w s = s
+no-store p g receiveMove j w s = s
+no-store p g (receivePublish o) j w s = s
+no-store p g (receiveWhole o) j w s = s
+
+kept-dword : (p : Plain) → Inv p → (o : Op) (j : ℕ) → Unreleased p j → getD (after (channelOf p) o .buf) j 0 ≡ getD (p .buf) j 0
+kept-dword p g o j w = ap (λ (y : Channel). getD (y .buf) j 0) (step-sim p g o .ends) ∙ facts p g o .keeps j w
+
+-- ---- demand 3
+
+module _ (b : List ℕ) (a : allowed (length b) ≡ true) (list : List Op) where
+  p₀ : Plain
+  p₀ = fresh (length b) b
+
+  g₀ : Inv (fresh (length b) b)
+  g₀ = fresh-good b a
+
+  messages₀ :
+      received list (run (channelOf (fresh (length b) b)) list) ++ unread (end (channelOf (fresh (length b) b)) list .desc) (end (channelOf (fresh (length b) b)) list .buf) ≡ published [] list (run (channelOf (fresh (length b) b)) list)
+  messages₀ =
+      let p : Plain = plainEnd (fresh (length b) b) list in
+      rw (run-sim (fresh (length b) b) g₀ list, end-sim (fresh (length b) b) g₀ list)
+      (ap (λ (l : List (List ℕ)). received list (plainRun (fresh (length b) b) list) ++ l) (unread-queue p (end-good (fresh (length b) b) g₀ list)) ∙ sym (flow-run list (fresh (length b) b) g₀ [] tt))
+
+  stores₀ :
+      (pre : List Op) (o : Op) (j : ℕ) → Unreleased (plainEnd (fresh (length b) b) pre) j
+      → (StoresAt (end (channelOf (fresh (length b) b)) pre) o j → ⊥) × (getD (after (end (channelOf (fresh (length b) b)) pre) o .buf) j 0 ≡ getD (end (channelOf (fresh (length b) b)) pre .buf) j 0)
+  stores₀ pre o j w =
+      let p : Plain = plainEnd (fresh (length b) b) pre in
+      let g : Inv p = end-good (fresh (length b) b) g₀ pre in
+      rw (end-sim (fresh (length b) b) g₀ pre) (no-store p g o j w, kept-dword p g o j w)
+
+  serial₀ :
+      plainEnd (fresh (length b) b) list .send ≡ notSending → (any : ℕ → List ℕ) → ((i : ℕ) → length (any i) ≡ 256)
+      → Serial (channelOf (fresh (length b) b)) (ended any [] list (run (channelOf (fresh (length b) b)) list)) (end (channelOf (fresh (length b) b)) list)
+  unfolding stores descriptor
+  serial₀ s any l =
+      let p : Plain = plainEnd (fresh (length b) b) list in
+      let cs : List Call = ended any [] list (plainRun (fresh (length b) b) list) in
+      let r : RunWhole (fresh (length b) b) b p cs = serial-run any l list (fresh (length b) b) g₀ [] tt b refl in
+      rw (run-sim (fresh (length b) b) g₀ list, end-sim (fresh (length b) b) g₀ list)
+      (record {
+        same-answers = ap (map result) (run-sim (fresh (length b) b) g₀ (wholes cs)) ∙ r .gave;
+        same-desc = ap (λ (y : Channel). y .desc) (end-sim (fresh (length b) b) g₀ (wholes cs)) ∙ ap descriptor (r .to);
+        same-buf = ap (λ (y : Channel). y .buf) (end-sim (fresh (length b) b) g₀ (wholes cs)) ∙ ap (λ (y : Plain). y .buf) (r .to) ∙ sym (rw s at (r .lin));
+      })
+
+pub demand3 : Demand3
+demand3 d b e a list =
+    let o = begin-eq d b e a in
+    let p : Plain = fresh (length b) b in
+    let g : Inv p = fresh-good b a in
+    record {
+      opens = open-code d b e a;
+      messages = rw o (messages₀ b a list);
+      stores = λ before later op _. rw o (stores₀ b a list before op);
+      as-plain = rw o (run-sim p g list);
+      plain-desc = rw o (ap (λ (y : Channel). y .desc) (end-sim p g list));
+      plain-buf = rw o (ap (λ (y : Channel). y .buf) (end-sim p g list));
+      serial = λ s r any l. rw o (serial₀ b a list s any l);
+    }
