@@ -1,12 +1,11 @@
 -- The numbers that say no (document 01), as chains in the order of the table: 'The lowest number that applies is the answer'.
 -- What a look decides, it decides on numbers alone: N, the own offset, STATUS, HEAD, TAIL, and the length or the header.
 use Prim.Native.Nat.{ℕ}
-use mathlib.Core.Bool.{Bool, true, false, not, _&&_, _||_}
+use mathlib.Core.Bool.{Bool, true, false, not, _&&_, _||_, cond}
 use mathlib.Core.List.{List}
 use lib.ListN.{set}
 use lib.Dec.{eqb, leb, ltb}
 use Rattle.message.specs.Header.{totalLength}
-use Rattle.message.specs.Types.{pick}
 use Rattle.channel.specs.Ring.{allowed, used, free, STATUS, good, overflow, underflow, mismatch}
 
 -- the refusal's number where the test fails, else what the rest of the chain says
@@ -37,5 +36,5 @@ receiveFound n own status hd tl header =
 -- what a look leaves of the descriptor: 7 'STATUS = 1', 8 'STATUS = 4', 9 'STATUS = 2', else all
 unfoldable pub marked : ℕ → List ℕ → List ℕ
 marked c desc =
-    pick (eqb c 7) (set desc STATUS overflow)
-    (pick (eqb c 8) (set desc STATUS mismatch) (pick (eqb c 9) (set desc STATUS underflow) desc))
+    cond (eqb c 7) (set desc STATUS overflow)
+    (cond (eqb c 8) (set desc STATUS mismatch) (cond (eqb c 9) (set desc STATUS underflow) desc))

@@ -1,9 +1,9 @@
 -- Opening a channel (document 01, 'The channel').
 use Prim.Native.Nat.{ℕ}
+use mathlib.Core.Bool.{cond}
 use mathlib.Core.List.{List}
 use lib.ListN.{length, replicate}
 use lib.Dec.{eqb}
-use Rattle.message.specs.Types.{pick}
 use Rattle.channel.specs.Ring.{allowed}
 use Rattle.channel.specs.State.{State, idleAt, ofSender, ofReceiver}
 use Rattle.channel.specs.Numbers.{need}
@@ -31,9 +31,9 @@ unfoldable pub openBy : ℕ → List ℕ → List ℕ → Opening
 openBy c d b =
     record {
       code = c;
-      sender = idleAt (pick (eqb c 0) (length b) 0) 0;
-      receiver = idleAt (pick (eqb c 0) (length b) 0) 0;
-      desc = pick (eqb c 0) (replicate 16 0) d;
+      sender = idleAt (cond (eqb c 0) (length b) 0) 0;
+      receiver = idleAt (cond (eqb c 0) (length b) 0) 0;
+      desc = cond (eqb c 0) (replicate 16 0) d;
       buf = b;
     }
 

@@ -1,10 +1,9 @@
 -- The steps of a receive and a whole receive (document 01, 'Steps of a send and a receive'): the number first, then the effect by it.
 use Prim.Native.Nat.{ℕ, zero, suc, _+_, _-_, _%_}
-use mathlib.Core.Bool.{Bool, _||_}
+use mathlib.Core.Bool.{Bool, _||_, cond}
 use mathlib.Core.List.{List, [], _∷_, _++_}
 use lib.ListN.{length, getD, take, drop, set, replicate}
 use lib.Dec.{eqb, leb, ltb}
-use Rattle.message.specs.Types.{pick}
 use Rattle.message.specs.Header.{totalLength, wellFormed}
 use Rattle.channel.specs.Ring.{HEAD, head, tail, status}
 use Rattle.channel.specs.State.{State, idleAt, idle, activeReceive, header, second}
@@ -23,7 +22,7 @@ loaded s h = record { n = s .n; own = s .own; len = totalLength h; moved = 1; co
 
 unfoldable pub lookBy : ℕ → State → List ℕ → List ℕ → Outcome
 lookBy c s d b =
-    record { code = c; len = 0; next = pick (eqb c 0) (loaded s (getD b (s .own) 0)) s; desc = marked c d; buf = b; out = [] }
+    record { code = c; len = 0; next = cond (eqb c 0) (loaded s (getD b (s .own) 0)) s; desc = marked c d; buf = b; out = [] }
 
 abbrev pub look : State → List ℕ → List ℕ → Outcome
 look s d b = lookBy (lookNumber s d b) s d b
@@ -42,7 +41,7 @@ moved s dword =
 
 unfoldable pub moveBy : ℕ → State → List ℕ → List ℕ → Outcome
 moveBy c s d b =
-    pick (eqb c 0)
+    cond (eqb c 0)
     (record { code = 0; len = 0; next = moved s (getD b (place s b) 0); desc = d; buf = b; out = [] })
     (refused c s d b [])
 
@@ -64,14 +63,14 @@ past s b = (s .own + s .len) % length b
 -- answer is 13.'
 unfoldable pub publishBy : ℕ → State → List ℕ → List ℕ → List ℕ → Outcome
 publishBy c s o d b =
-    pick (eqb c 0 || eqb c 13)
+    cond (eqb c 0 || eqb c 13)
     (record {
       code = c;
-      len = pick (eqb c 0) (s .len) 0;
+      len = cond (eqb c 0) (s .len) 0;
       next = idleAt (s .n) (past s b);
       desc = set d HEAD (past s b);
       buf = b;
-      out = pick (eqb c 0) (take (s .len) (s .copy) ++ drop (s .len) o) o;
+      out = cond (eqb c 0) (take (s .len) (s .copy) ++ drop (s .len) o) o;
     })
     (refused c s d b o)
 
@@ -95,7 +94,7 @@ beside o x = record { code = x .code; len = x .len; next = x .next; desc = x .de
 
 -- after the look, which moved the header: L - 1 moves and the publish
 unfoldable pub rest : List ℕ → Outcome → Outcome
-rest o x = pick (eqb (x .code) 0) (publishAfter o (moves (x .next .len - 1) x)) (beside o x)
+rest o x = cond (eqb (x .code) 0) (publishAfter o (moves (x .next .len - 1) x)) (beside o x)
 
 -- the numbers 1 to 5 of a whole receive
 unfoldable pub wholeNumber : State → List ℕ → List ℕ → List ℕ → ℕ
@@ -103,7 +102,7 @@ wholeNumber s o d b = entry (length d) (length b) (idle (length b) s) (need (leb
 
 -- 'A whole .. receive that 1 to 5 don't refuse equals its steps run one after another on the lent memory.'
 unfoldable pub wholeBy : ℕ → State → List ℕ → List ℕ → List ℕ → Outcome
-wholeBy c s o d b = pick (eqb c 0) (rest o (look s d b)) (refused c s d b o)
+wholeBy c s o d b = cond (eqb c 0) (rest o (look s d b)) (refused c s d b o)
 
 abbrev pub whole : State → List ℕ → List ℕ → List ℕ → Outcome
 whole s o d b = wholeBy (wholeNumber s o d b) s o d b

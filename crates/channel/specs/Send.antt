@@ -1,12 +1,11 @@
 -- The steps of a send and a whole send (document 01, 'Steps of a send and a receive'): the number first, then the effect by it.
 -- Document 01's terms for the steps are look, move and publish.
 use Prim.Native.Nat.{ℕ, zero, suc, _+_, _-_, _%_}
-use mathlib.Core.Bool.{Bool}
+use mathlib.Core.Bool.{Bool, cond}
 use mathlib.Core.List.{List, [], _++_}
 use lib.ListN.{length, getD, set, replicate}
 use lib.Dec.{eqb, leb, ltb}
-use Rattle.message.specs.Types.{pick}
-use Rattle.message.specs.Header.{whole as wholeMessage}
+use Rattle.message.specs.Header.{isMessage}
 use Rattle.channel.specs.Ring.{TAIL, head, tail, status}
 use Rattle.channel.specs.State.{State, idleAt, idle, activeSend}
 use Rattle.channel.specs.Numbers.{need, entry, sendFound, marked}
@@ -16,7 +15,7 @@ use Rattle.channel.specs.Outcome.{Outcome, refused}
 unfoldable pub lookNumber : State → List ℕ → List ℕ → List ℕ → ℕ
 lookNumber s m d b =
     entry (length d) (length b) (idle (length b) s)
-    (need (wholeMessage m) 4 (sendFound (length b) (s .own) (length m) (status d) (head d) (tail d)))
+    (need (isMessage m) 4 (sendFound (length b) (s .own) (length m) (status d) (head d) (tail d)))
 
 -- active with the message: 'a look leaves zeros in the copy's other places'
 abbrev pub loaded : State → List ℕ → State
@@ -25,7 +24,7 @@ loaded s m =
 
 unfoldable pub lookBy : ℕ → State → List ℕ → List ℕ → List ℕ → Outcome
 lookBy c s m d b =
-    record { code = c; len = 0; next = pick (eqb c 0) (loaded s m) s; desc = marked c d; buf = b; out = [] }
+    record { code = c; len = 0; next = cond (eqb c 0) (loaded s m) s; desc = marked c d; buf = b; out = [] }
 
 abbrev pub look : State → List ℕ → List ℕ → List ℕ → Outcome
 look s m d b = lookBy (lookNumber s m d b) s m d b
@@ -43,7 +42,7 @@ moved s = record { n = s .n; own = s .own; len = s .len; moved = s .moved + 1; c
 
 unfoldable pub moveBy : ℕ → State → List ℕ → List ℕ → Outcome
 moveBy c s d b =
-    pick (eqb c 0)
+    cond (eqb c 0)
     (record { code = 0; len = 0; next = moved s; desc = d; buf = set b (place s b) (getD (s .copy) (s .moved) 0); out = [] })
     (refused c s d b [])
 
@@ -61,7 +60,7 @@ past s b = (s .own + s .len) % length b
 -- 'After publish the state is idle with the new own offset, and its copy is all zeros.'
 unfoldable pub publishBy : ℕ → State → List ℕ → List ℕ → Outcome
 publishBy c s d b =
-    pick (eqb c 0)
+    cond (eqb c 0)
     (record { code = 0; len = 0; next = idleAt (s .n) (past s b); desc = set d TAIL (past s b); buf = b; out = [] })
     (refused c s d b [])
 
@@ -82,7 +81,7 @@ moves (suc k) x = moves k (moveAfter x)
 -- 'A whole send .. that 1 to 5 don't refuse equals its steps run one after another on the lent memory.' 1 to 4 are its look's; where the look
 -- refuses, no step follows it.
 unfoldable pub rest : ℕ → Outcome → Outcome
-rest l x = pick (eqb (x .code) 0) (publishAfter (moves l x)) x
+rest l x = cond (eqb (x .code) 0) (publishAfter (moves l x)) x
 
 abbrev pub whole : State → List ℕ → List ℕ → List ℕ → Outcome
 whole s m d b = rest (length m) (look s m d b)

@@ -11,8 +11,8 @@ use borrow.Author.Tests.{leb-true, le-leb, eqb-false}
 use lib.ListN.{length, getD, take, drop, set}
 use lib.Seq.{take-all, take-append-seam, getD-set-other}
 use lib.Dec.{leb, eqb}
-use Rattle.message.specs.Header.{whole}
-use Rattle.message.proofs.Whole.{whole-long}
+use Rattle.message.specs.Header.{isMessage}
+use Rattle.message.proofs.Formed.{message-long}
 use Rattle.channel.specs.Numbers.{need}
 use Rattle.delivery.specs.Demand.{Call, Result, Unreleased, answers, endedBy, held, publishedBy, receivedBy, result, wholes}
 use Rattle.delivery.specs.Operations.{Op, plainAnswer, plainEnd, plainRun, plainSeen, receiveLook, receiveMove, receivePublish, receiveWhole, sendLook, sendMove, sendPublish, sendWhole}
@@ -125,7 +125,7 @@ module _ (n : ℕ) (b : List ℕ) (q : List (List ℕ)) (P R : ℕ) where
           holds = λ c i. tt;
           keeps = λ j w. refl;
           ran =
-              λ c i e _ z l. one-run _ z (stores z n P m) _ _ (sendWhole c) _ (ap (Plain.sendWhole (plain n z q P R notSending notReceiving)) i ∙ send-whole-ok n z q P R notReceiving m (ok 4 (g .send .is-whole) ∙ ok 10 f)) refl refl (l ∙ ap (stores z n P) (take-all k m h));
+              λ c i e _ z l. one-run _ z (stores z n P m) _ _ (sendWhole c) _ (ap (Plain.sendWhole (plain n z q P R notSending notReceiving)) i ∙ send-whole-ok n z q P R notReceiving m (ok 4 (g .send .is-message) ∙ ok 10 f)) refl refl (l ∙ ap (stores z n P) (take-all k m h));
         }
 
   module _ (m : List ℕ) (r : Receiving) (g : Inv (plain n b q P R notSending r)) where
@@ -222,7 +222,7 @@ module _ (n : ℕ) (b : List ℕ) (P R : ℕ) where
   facts-look : (q : List (List ℕ)) (r : Receiving) (m : List ℕ) (s : Sending) → Inv (plain n b q P R s r) → StepFacts (plain n b q P R s r) (sendLook m) (plainAnswer (plain n b q P R s r) (sendLook m))
   unfolding Plain.sendLookBy Plain.sendLookNumber need roomNumber
   facts-look q r m notSending g =
-      cases (whole m)
+      cases (isMessage m)
       (λ f. cases (leb (length m) (n - 1 - (P - R)))
       (λ l. rw (f, l) (look-yes n b q P R m r))
       (λ l. rw (f, l) (look-no n b q P R m r 10 (ok 4 f ∙ bad 0 l) refl refl)))
@@ -250,7 +250,7 @@ module _ (n : ℕ) (b : List ℕ) (P R : ℕ) where
   facts-whole : (q : List (List ℕ)) (r : Receiving) (m : List ℕ) (s : Sending) → Inv (plain n b q P R s r) → StepFacts (plain n b q P R s r) (sendWhole m) (plainAnswer (plain n b q P R s r) (sendWhole m))
   unfolding roomNumber
   facts-whole q r m notSending g =
-      cases (whole m)
+      cases (isMessage m)
       (λ f. cases (leb (length m) (n - 1 - (P - R)))
       (λ l. rw (send-whole-ok n b q P R r m (ok 4 f ∙ ok 10 l)) (whole-yes n b q P R m r g (ok 4 f ∙ ok 10 l) (leb-true (length m) (n - 1 - (P - R)) l)))
       (λ l. rw (send-whole-refused n b q P R r m 10 (ok 4 f ∙ bad 0 l) refl) (whole-no n b q P R m r g 10 (ok 4 f ∙ bad 0 l) refl refl)))
@@ -279,7 +279,7 @@ module _ (n : ℕ) (b : List ℕ) (P R : ℕ) where
     facts-r-pub o (m ∷ q) (receiving k) g =
         cases (leb 256 (length o))
         (λ e. cases (leb (length m) k)
-        (λ f. rw (e, f) (r-pub-yes n b P R s o e m q (omega (arith, whole-long m (g .all-whole .0))) (receiving k)))
+        (λ f. rw (e, f) (r-pub-yes n b P R s o e m q (omega (arith, message-long m (g .all-messages .0))) (receiving k)))
         (λ f. rw (e, f) (no-facts _ _ 12 o (λ k. refl) refl (λ k. refl) (λ e k. refl))))
         (λ e. rw e (no-facts _ _ 5 o (λ k. refl) refl (λ k. refl) (λ e k. refl)))
 
@@ -289,7 +289,7 @@ module _ (n : ℕ) (b : List ℕ) (P R : ℕ) where
         (λ e. rw (receive-whole-none n b P R s o e) (r-whole-none n b P R s o e))
         (λ e. rw (receive-whole-short n b [] P R s o e) (r-whole-short n b P R s [] o e))
     facts-r-whole o (m ∷ q) notReceiving g =
-        let h : 1 ≤ length m = omega (arith, whole-long m (g .all-whole .0)) in
+        let h : 1 ≤ length m = omega (arith, message-long m (g .all-messages .0)) in
         cases (leb 256 (length o))
         (λ e. rw (receive-whole-ok n b P R s o e m q h) (r-whole-yes n b P R s o e m q h))
         (λ e. rw (receive-whole-short n b (m ∷ q) P R s o e) (r-whole-short n b P R s (m ∷ q) o e))

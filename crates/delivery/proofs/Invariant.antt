@@ -1,6 +1,6 @@
 -- The channel's states, descriptor and buffer as a function of the plain channel, and what holds of the plain channel always.
 -- Assumes nothing.
-use mathlib.Core.Path.{_≡_, refl, sym, ap, _∙_}
+use mathlib.Core.Path.{_≡_, refl}
 use mathlib.Core.Bool.{Bool, true, false, not, _&&_}
 use mathlib.Core.List.{List, [], _∷_, _++_}
 use Prim.Native.Nat.{ℕ, _+_, _-_, _%_, _≤_, _<_}
@@ -8,17 +8,17 @@ use native.Mathlib.Nat.{mod-lt}
 use native.Mathlib.Omega.{arith}
 use borrow.Author.Tests.{leb-true, eqb-true, eqb-false, lt-ltb, le-ltb, le-leb, eq-eqb, ne-eqb}
 use lib.ListN.{length, getD, take, replicate}
-use lib.Dec.{ltb, leb, eqb}
-use Rattle.message.specs.Header.{totalLength, wellFormed, whole}
+use lib.Dec.{ltb, eqb}
+use Rattle.message.specs.Header.{isMessage, totalLength, wellFormed}
+use Rattle.message.proofs.Formed.{message-long}
 use Rattle.message.proofs.Tests.{and-l, and-r}
-use Rattle.message.proofs.Whole.{whole-long}
-use Rattle.channel.specs.Ring.{allowed, head, tail, status, used}
-use Rattle.channel.specs.State.{State, zeros, idleAt, allZero, idle, activeSend, activeReceive}
-use Rattle.channel.specs.Numbers.{need, entry, found}
-use Rattle.delivery.specs.Plain.{Sending, notSending, sending, Receiving, notReceiving, receiving, Plain, descriptor, first}
-use Rattle.delivery.specs.Operations.{Channel}
+use Rattle.channel.specs.Numbers.{entry, found, need}
+use Rattle.channel.specs.Ring.{allowed, head, status, tail, used}
+use Rattle.channel.specs.State.{State, activeReceive, activeSend, allZero, idle, idleAt, zeros}
 use Rattle.delivery.specs.Demand.{window}
-use Rattle.delivery.proofs.Ring.{gap, flat}
+use Rattle.delivery.specs.Operations.{Channel}
+use Rattle.delivery.specs.Plain.{Plain, Receiving, Sending, descriptor, first, notReceiving, notSending, receiving, sending}
+use Rattle.delivery.proofs.Ring.{flat, gap}
 
 -- a plain channel by its parts
 abbrev pub plain : ℕ → List ℕ → List (List ℕ) → ℕ → ℕ → Sending → Receiving → Plain
@@ -47,13 +47,13 @@ channelOf p = record { sender = senderOf p; receiver = receiverOf p; desc = desc
 
 -- ---- what holds of the plain channel
 
-abbrev pub AllWhole : List (List ℕ) → Type 0
-AllWhole [] = Unit {0}
-AllWhole (m ∷ q) = (whole m ≡ true) × AllWhole q
+abbrev pub AllMessages : List (List ℕ) → Type 0
+AllMessages [] = Unit {0}
+AllMessages (m ∷ q) = (isMessage m ≡ true) × AllMessages q
 
 -- of a send mid-call: its message fits beside the queue, and k dwords of it lie past what is published
 pub record MidSend (n : ℕ) (b : List ℕ) (q : List (List ℕ)) (P k : ℕ) (m : List ℕ) : Type 0 where
-  pub is-whole : whole m ≡ true
+  pub is-message : isMessage m ≡ true
   pub up-to : k ≤ length m
   pub fits : length (flat q) + length m < n
   pub done : window b n P k ≡ take k m
@@ -64,7 +64,7 @@ InvSend n b q P (sending k m) = MidSend n b q P k m
 
 -- of a receive mid-call: there is a message, and at least its header is moved
 pub record MidReceive (q : List (List ℕ)) (k : ℕ) : Type 0 where
-  pub is-whole : whole (first q) ≡ true
+  pub is-message : isMessage (first q) ≡ true
   pub start : 1 ≤ k
   pub up-to : k ≤ length (first q)
 
@@ -79,7 +79,7 @@ pub record Inv (p : Plain) : Type 0 where
   pub count : p .P ≡ p .R + length (flat (p .queue))
   pub room : length (flat (p .queue)) < p .n
   pub in-buffer : window (p .buf) (p .n) (p .R) (length (flat (p .queue))) ≡ flat (p .queue)
-  pub all-whole : AllWhole (p .queue)
+  pub all-messages : AllMessages (p .queue)
   pub send : InvSend (p .n) (p .buf) (p .queue) (p .P) (p .send)
   pub receive : InvReceive (p .queue) (p .receive)
 
@@ -106,7 +106,7 @@ unfolding need
 bad r e = rw e
 
 pub empty-receiving : {X : Type 0} (k : ℕ) → MidReceive [] k → X
-empty-receiving k c = absurd (omega (arith, whole-long [] (c .is-whole)))
+empty-receiving k c = absurd (omega (arith, message-long [] (c .is-message)))
 
 pub allowed-low : (n : ℕ) → allowed n ≡ true → 1024 ≤ n
 unfolding allowed

@@ -6,3 +6,4 @@ pub mod ReceiveSteps
 pub mod Simulation
 pub mod Facts
 pub mod Theorem
+pub mod Loopback

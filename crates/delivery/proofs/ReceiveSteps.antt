@@ -11,8 +11,8 @@ use borrow.Author.Tests.{leb-true, eqb-false, le-leb, ne-eqb}
 use lib.ListN.{length, getD, take, drop, set, replicate, List·getD-append, length-append}
 use lib.Seq.{take-suc, take-all, getD-take, length-take-le, set-at, append-snoc, take-append-seam, drop-append-seam, drop-at}
 use lib.Dec.{leb, eqb}
-use Rattle.message.specs.Header.{totalLength, wellFormed, whole}
-use Rattle.message.proofs.Whole.{whole-formed, whole-length, whole-long, whole-short}
+use Rattle.message.specs.Header.{isMessage, totalLength, wellFormed}
+use Rattle.message.proofs.Formed.{message-formed, message-length, message-long, message-short}
 use Rattle.channel.specs.Numbers.{marked, need, receiveFound}
 use Rattle.channel.specs.Outcome.{Outcome}
 use Rattle.channel.specs.State.{activeReceive, idle}
@@ -20,6 +20,7 @@ use Rattle.channel.specs.Receive
 use Rattle.delivery.specs.Demand.{window}
 use Rattle.delivery.specs.Plain.{Answer, Plain, Receiving, Sending, descriptor, first, notReceiving, notSending, receiving, sending}
 use Rattle.delivery.specs.Plain
+use Rattle.delivery.proofs.Facts.{done}
 use Rattle.delivery.proofs.Invariant.{Inv, InvSend, bad, below-is, busy-active-receive, busy-idle, cases, empty-receiving, entry-ok, found-receive, idle-active-receive, idle-idle, ok, own-receive, plain, receiveState, receiverOf, senderOf, used-eq}
 use Rattle.delivery.proofs.Ring.{flat, window-append, window-at, window-length}
 
@@ -48,13 +49,13 @@ module _ (n : ℕ) (b : List ℕ) (P R : ℕ) (s : Sending) where
     first-header : getD b (R % n) 0 ≡ getD m 0 0
     first-header =
         let e : R ≡ R + 0 = omega arith in
-        ap (λ (x : ℕ). getD b (x % n) 0) e ∙ first-dword 0 (omega (arith, whole-long m (g .all-whole .0)))
+        ap (λ (x : ℕ). getD b (x % n) 0) e ∙ first-dword 0 (omega (arith, message-long m (g .all-messages .0)))
 
     first-length : totalLength (getD b (R % n) 0) ≡ length m
-    first-length = ap totalLength first-header ∙ sym (whole-length m (g .all-whole .0))
+    first-length = ap totalLength first-header ∙ sym (message-length m (g .all-messages .0))
 
     nonempty : length (flat (m ∷ q)) ≢ 0
-    nonempty e = omega (arith, first-size, whole-long m (g .all-whole .0))
+    nonempty e = omega (arith, first-size, message-long m (g .all-messages .0))
 
   -- ---- look
 
@@ -63,7 +64,7 @@ module _ (n : ℕ) (b : List ℕ) (P R : ℕ) (s : Sending) where
 
   fits-not : (q : List (List ℕ)) (k : ℕ) → Inv (plain n b q P R s (receiving k)) → idle (length b) (receiveState n R (first q) (receiving k)) ≡ false
   fits-not q k g =
-      rw (g .size) (busy-idle n (R % n) (own-receive _ g) (length (first q)) k _ (omega (arith, whole-long (first q) (g .receive .is-whole))))
+      rw (g .size) (busy-idle n (R % n) (own-receive _ g) (length (first q)) k _ (omega (arith, message-long (first q) (g .receive .is-message))))
 
   look-code :
       (q : List (List ℕ)) (r : Receiving) → Inv (plain n b q P R s r)
@@ -93,7 +94,7 @@ module _ (n : ℕ) (b : List ℕ) (P R : ℕ) (s : Sending) where
                     own = R % n;
                     len = first-length m q notReceiving g i;
                     moved = 1;
-                    copy = (ap (λ (x : ℕ). x ∷ []) (first-header m q notReceiving g) ∙ sym (take-suc m 0 0 (omega (arith, whole-long m (g .all-whole .0))))) i ++ replicate 255 0;
+                    copy = (ap (λ (x : ℕ). x ∷ []) (first-header m q notReceiving g) ∙ sym (take-suc m 0 0 (omega (arith, message-long m (g .all-messages .0))))) i ++ replicate 255 0;
                   };
               desc = descriptor (plain n b (m ∷ q) P R s notReceiving);
               buf = b;
@@ -107,9 +108,9 @@ module _ (n : ℕ) (b : List ℕ) (P R : ℕ) (s : Sending) where
               count = g .count;
               room = g .room;
               in-buffer = g .in-buffer;
-              all-whole = g .all-whole;
+              all-messages = g .all-messages;
               send = g .send;
-              receive = record { is-whole = g .all-whole .0; start = omega arith; up-to = omega (arith, whole-long m (g .all-whole .0)) };
+              receive = record { is-message = g .all-messages .0; start = omega arith; up-to = omega (arith, message-long m (g .all-messages .0)) };
             };
       })
   sim-look q (receiving k) g = rw (look-code q (receiving k) g) (record { same = refl; other = refl; good = g })
@@ -123,10 +124,10 @@ module _ (n : ℕ) (b : List ℕ) (P R : ℕ) (s : Sending) where
 
   fits-active : (q : List (List ℕ)) (k : ℕ) → Inv (plain n b q P R s (receiving k)) → activeReceive (length b) (receiveState n R (first q) (receiving k)) ≡ true
   fits-active q k g =
-      let f : whole (first q) ≡ true = g .receive .is-whole in
-      let l : 2 ≤ length (first q) = whole-long (first q) f in
+      let f : isMessage (first q) ≡ true = g .receive .is-message in
+      let l : 2 ≤ length (first q) = message-long (first q) f in
       rw (g .size)
-      (busy-active-receive n (R % n) (own-receive _ g) (length (first q)) k _ (omega arith) (whole-short (first q) f) (g .receive .start) (g .receive .up-to) (whole-length (first q) f ∙ ap totalLength (sym (copied-at k (first q) 0 (g .receive .start) (g .receive .up-to)))))
+      (busy-active-receive n (R % n) (own-receive _ g) (length (first q)) k _ (omega arith) (message-short (first q) f) (g .receive .start) (g .receive .up-to) (message-length (first q) f ∙ ap totalLength (sym (copied-at k (first q) 0 (g .receive .start) (g .receive .up-to)))))
 
   fits-not-active : (q : List (List ℕ)) → Inv (plain n b q P R s notReceiving) → activeReceive (length b) (receiveState n R (first q) notReceiving) ≡ false
   fits-not-active q g = rw (g .size) (idle-active-receive n (R % n) (own-receive _ g))
@@ -144,7 +145,7 @@ module _ (n : ℕ) (b : List ℕ) (P R : ℕ) (s : Sending) where
       → set (take k (first q) ++ replicate (256 - k) 0) k (getD b ((R % n + k) % length b) 0) ≡ take (k + 1) (first q) ++ replicate (256 - (k + 1)) 0
   copy-on [] k g h = empty-receiving k (g .receive)
   copy-on (m ∷ q) k g h =
-      let e : 256 - k ≡ suc (256 - (k + 1)) = omega (arith, whole-short m (g .receive .is-whole)) in
+      let e : 256 - k ≡ suc (256 - (k + 1)) = omega (arith, message-short m (g .receive .is-message)) in
       let v : getD b ((R % n + k) % length b) 0 ≡ getD m k 0 = rw (g .size, mod-add-mod) (first-dword m q (receiving k) g k h) in
       let z : List ℕ = replicate (256 - (k + 1)) 0 in
       ap (λ (x : ℕ). set (take k m ++ replicate x 0) k (getD b ((R % n + k) % length b) 0)) e ∙ set-at (take k m) 0 z _ k (length-take-le k m (omega arith)) ∙ ap (λ (x : ℕ). take k m ++ x ∷ z) v ∙ sym (append-snoc (take k m) (getD m k 0) z) ∙ ap (λ (l : List ℕ). l ++ z) (sym (take-suc m k 0 h) ∙ ap (λ (x : ℕ). take x m) (sym (add-one k)))
@@ -172,9 +173,9 @@ module _ (n : ℕ) (b : List ℕ) (P R : ℕ) (s : Sending) where
               count = g .count;
               room = g .room;
               in-buffer = g .in-buffer;
-              all-whole = g .all-whole;
+              all-messages = g .all-messages;
               send = g .send;
-              receive = record { is-whole = g .receive .is-whole; start = omega arith; up-to = omega arith };
+              receive = record { is-message = g .receive .is-message; start = omega arith; up-to = omega arith };
             };
       })))
 
@@ -193,12 +194,12 @@ module _ (n : ℕ) (b : List ℕ) (P R : ℕ) (s : Sending) where
       copy-formed : leb (length (first q)) k ≡ true → wellFormed (getD (take k (first q) ++ replicate (256 - k) 0) 0 0) (getD (take k (first q) ++ replicate (256 - k) 0) 1 0) ≡ true
       copy-formed e =
           let h : length (first q) ≤ k = leb-true (length (first q)) k e in
-          let l : 2 ≤ length (first q) = whole-long (first q) (g .receive .is-whole) in
-          rw (copied-at k (first q) 0 (g .receive .start) (g .receive .up-to), copied-at k (first q) 1 (omega arith) (g .receive .up-to)) (whole-formed (first q) (g .receive .is-whole))
+          let l : 2 ≤ length (first q) = message-long (first q) (g .receive .is-message) in
+          rw (copied-at k (first q) 0 (g .receive .start) (g .receive .up-to), copied-at k (first q) 1 (omega arith) (g .receive .up-to)) (message-formed (first q) (g .receive .is-message))
 
   shorter-s : (m : List ℕ) (q : List (List ℕ)) (x : Sending) → length (flat (m ∷ q)) ≡ length m + length (flat q) → InvSend n b (m ∷ q) P x → InvSend n b q P x
   shorter-s m q notSending e g = tt
-  shorter-s m q (sending k y) e g = record { is-whole = g .is-whole; up-to = g .up-to; fits = omega (arith, g .fits); done = g .done }
+  shorter-s m q (sending k y) e g = record { is-message = g .is-message; up-to = g .up-to; fits = omega (arith, g .fits); done = g .done }
 
   released-good : (m : List ℕ) (q : List (List ℕ)) (r : Receiving) → Inv (plain n b (m ∷ q) P R s r) → Inv (plain n b q P (R + length m) s notReceiving)
   unfolding flat
@@ -212,7 +213,7 @@ module _ (n : ℕ) (b : List ℕ) (P R : ℕ) (s : Sending) where
         count = omega (arith, g .count);
         room = omega (arith, g .room);
         in-buffer = sym (drop-at w _ (length m) (window-length b n R (length m))) ∙ ap (drop (length m)) t ∙ drop-append-seam m (flat q);
-        all-whole = g .all-whole .1;
+        all-messages = g .all-messages .1;
         send = shorter-s m q s e (g .send);
         receive = tt;
       }

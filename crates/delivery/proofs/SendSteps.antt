@@ -11,8 +11,8 @@ use borrow.Author.Tests.{leb-true, eqb-false}
 use lib.ListN.{length, getD, take, set, replicate, List·getD-append, length-set, length-append}
 use lib.Seq.{getD-set-same, take-suc, take-all}
 use lib.Dec.{leb, eqb}
-use Rattle.message.specs.Header.{totalLength, whole}
-use Rattle.message.proofs.Whole.{whole-formed, whole-length, whole-long, whole-short}
+use Rattle.message.specs.Header.{isMessage, totalLength}
+use Rattle.message.proofs.Formed.{message-formed, message-length, message-long, message-short}
 use Rattle.channel.specs.Numbers.{marked, need, sendFound}
 use Rattle.channel.specs.Outcome.{Outcome}
 use Rattle.channel.specs.Ring.{free, head, tail}
@@ -21,7 +21,8 @@ use Rattle.channel.specs.Send
 use Rattle.delivery.specs.Demand.{window}
 use Rattle.delivery.specs.Plain.{Answer, Plain, Receiving, Sending, descriptor, first, notReceiving, notSending, receiving, sending}
 use Rattle.delivery.specs.Plain
-use Rattle.delivery.proofs.Invariant.{AllWhole, Inv, InvReceive, bad, below-is, busy-active-send, busy-idle, cases, empty-receiving, entry-ok, found-send, idle-active-send, idle-idle, n-low, ok, own-send, plain, receiveState, receiverOf, sendState, senderOf, used-eq}
+use Rattle.delivery.proofs.Facts.{done}
+use Rattle.delivery.proofs.Invariant.{AllMessages, Inv, InvReceive, bad, below-is, busy-active-send, busy-idle, cases, empty-receiving, entry-ok, found-send, idle-active-send, idle-idle, n-low, ok, own-send, plain, receiveState, receiverOf, sendState, senderOf, used-eq}
 use Rattle.delivery.proofs.Ring.{apart, flat, flat-snoc, window-append, window-set}
 
 abbrev pub asSender : Answer → Outcome
@@ -40,7 +41,7 @@ module _ (n : ℕ) (b : List ℕ) (q : List (List ℕ)) (P R : ℕ) (r : Receivi
   fits-idle g = rw (g .size) (idle-idle n (P % n) (own-send _ g))
 
   fits-not : (k : ℕ) (m : List ℕ) → Inv (plain n b q P R (sending k m) r) → idle (length b) (sendState n P (sending k m)) ≡ false
-  fits-not k m g = rw (g .size) (busy-idle n (P % n) (own-send _ g) (length m) k _ (omega (arith, whole-long m (g .send .is-whole))))
+  fits-not k m g = rw (g .size) (busy-idle n (P % n) (own-send _ g) (length m) k _ (omega (arith, message-long m (g .send .is-message))))
 
   free-eq : (s : Sending) (g : Inv (plain n b q P R s r)) → free (length b) (head (descriptor (plain n b q P R s r))) (tail (descriptor (plain n b q P R s r))) ≡ n - 1 - (P - R)
   unfolding free
@@ -51,14 +52,14 @@ module _ (n : ℕ) (b : List ℕ) (q : List (List ℕ)) (P R : ℕ) (r : Receivi
       → Send.lookNumber (sendState n P s) m (descriptor (plain n b q P R s r)) b ≡ Plain.sendLookNumber (plain n b q P R s r) m
   unfolding Send.lookNumber sendFound Plain.sendLookNumber
   look-code notSending m g =
-      entry-ok _ g _ _ ∙ ok 3 (fits-idle g) ∙ ap (need (whole m) 4) (found-send _ g _ ∙ ap (λ (x : ℕ). need (leb (length m) x) 10 0) (free-eq notSending g))
+      entry-ok _ g _ _ ∙ ok 3 (fits-idle g) ∙ ap (need (isMessage m) 4) (found-send _ g _ ∙ ap (λ (x : ℕ). need (leb (length m) x) 10 0) (free-eq notSending g))
   look-code (sending k m₀) m g = entry-ok _ g _ _ ∙ bad _ (fits-not k m₀ g)
 
   sim-look : (s : Sending) (m : List ℕ) → Inv (plain n b q P R s r) → SendSim (plain n b q P R s r) (Send.look (sendState n P s) m (descriptor (plain n b q P R s r)) b) (Plain.sendLook (plain n b q P R s r) m)
   unfolding Send.lookBy marked Plain.sendLookBy Plain.sendLookNumber descriptor need window
   sim-look notSending m g =
       rw (look-code notSending m g)
-      (cases (whole m)
+      (cases (isMessage m)
       (λ f. cases (leb (length m) (n - 1 - (P - R)))
       (λ l. rw (f, l)
       (record {
@@ -71,10 +72,10 @@ module _ (n : ℕ) (b : List ℕ) (q : List (List ℕ)) (P R : ℕ) (r : Receivi
               count = g .count;
               room = g .room;
               in-buffer = g .in-buffer;
-              all-whole = g .all-whole;
+              all-messages = g .all-messages;
               send =
                   record {
-                    is-whole = f;
+                    is-message = f;
                     up-to = omega arith;
                     fits = omega (arith, leb-true (length m) (n - 1 - (P - R)) l, g .count, n-low (plain n b q P R notSending r) g);
                     done = refl;
@@ -90,13 +91,13 @@ module _ (n : ℕ) (b : List ℕ) (q : List (List ℕ)) (P R : ℕ) (r : Receivi
 
   fits-active : (k : ℕ) (m : List ℕ) → Inv (plain n b q P R (sending k m) r) → activeSend (length b) (sendState n P (sending k m)) ≡ true
   fits-active k m g =
-      let f : whole m ≡ true = g .send .is-whole in
-      let l : 2 ≤ length m = whole-long m f in
+      let f : isMessage m ≡ true = g .send .is-message in
+      let l : 2 ≤ length m = message-long m f in
       let z : List ℕ = replicate (256 - length m) 0 in
       let e₀ : getD (m ++ z) 0 0 ≡ getD m 0 0 = List·getD-append m z 0 0 (omega arith) in
       let e₁ : getD (m ++ z) 1 0 ≡ getD m 1 0 = List·getD-append m z 0 1 (omega arith) in
       rw (g .size)
-      (busy-active-send n (P % n) (own-send _ g) (length m) k (m ++ z) l (whole-short m f) (g .send .up-to) (whole-length m f ∙ ap totalLength (sym e₀)) (rw (e₀, e₁) (whole-formed m f)))
+      (busy-active-send n (P % n) (own-send _ g) (length m) k (m ++ z) l (message-short m f) (g .send .up-to) (message-length m f ∙ ap totalLength (sym e₀)) (rw (e₀, e₁) (message-formed m f)))
 
   fits-not-active : Inv (plain n b q P R notSending r) → activeSend (length b) (sendState n P notSending) ≡ false
   fits-not-active g = rw (g .size) (idle-active-send n (P % n) (own-send _ g))
@@ -133,8 +134,8 @@ module _ (n : ℕ) (b : List ℕ) (q : List (List ℕ)) (P R : ℕ) (r : Receivi
           count = g .count;
           room = g .room;
           in-buffer = store-held;
-          all-whole = g .all-whole;
-          send = record { is-whole = g .send .is-whole; up-to = omega arith; fits = g .send .fits; done = store-done };
+          all-messages = g .all-messages;
+          send = record { is-message = g .send .is-message; up-to = omega arith; fits = g .send .fits; done = store-done };
           receive = g .receive;
         }
 
@@ -157,14 +158,14 @@ module _ (n : ℕ) (b : List ℕ) (q : List (List ℕ)) (P R : ℕ) (r : Receivi
   pub-code notSending g = entry-ok _ g _ _ ∙ bad _ (fits-not-active g)
   pub-code (sending k m) g = entry-ok _ g _ _ ∙ ok 3 (fits-active k m g)
 
-  snoc-formed : (u : List (List ℕ)) (m : List ℕ) → AllWhole u → whole m ≡ true → AllWhole (u ++ (m ∷ []))
+  snoc-formed : (u : List (List ℕ)) (m : List ℕ) → AllMessages u → isMessage m ≡ true → AllMessages (u ++ (m ∷ []))
   snoc-formed [] m a f = (f, tt)
   snoc-formed (x ∷ u) m a f = (a .0, snoc-formed u m (a .1) f)
 
   snoc-r : (u : List (List ℕ)) (m : List ℕ) (x : Receiving) → InvReceive u x → InvReceive (u ++ (m ∷ [])) x
   snoc-r u m notReceiving c = tt
   snoc-r [] m (receiving k) c = empty-receiving k c
-  snoc-r (y ∷ u) m (receiving k) c = record { is-whole = c .is-whole; start = c .start; up-to = c .up-to }
+  snoc-r (y ∷ u) m (receiving k) c = record { is-message = c .is-message; start = c .start; up-to = c .up-to }
 
   snoc-other : (u : List (List ℕ)) (m : List ℕ) (x : Receiving) → InvReceive u x → receiveState n R (first (u ++ (m ∷ []))) x ≡ receiveState n R (first u) x
   snoc-other u m notReceiving c = refl
@@ -193,7 +194,7 @@ module _ (n : ℕ) (b : List ℕ) (q : List (List ℕ)) (P R : ℕ) (r : Receivi
           count = rw pub-size (omega (arith, g .count));
           room = rw pub-size (g .send .fits);
           in-buffer = pub-held;
-          all-whole = snoc-formed q m (g .all-whole) (g .send .is-whole);
+          all-messages = snoc-formed q m (g .all-messages) (g .send .is-message);
           send = tt;
           receive = snoc-r q m r (g .receive);
         }

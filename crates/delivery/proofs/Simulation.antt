@@ -82,7 +82,7 @@ fresh-good b a =
       count = refl;
       room = omega (arith, allowed-low (length b) a);
       in-buffer = refl;
-      all-whole = tt;
+      all-messages = tt;
       send = tt;
       receive = tt;
     }

@@ -10,8 +10,8 @@ use borrow.Author.Tests.{leb-true, eqb-false}
 use lib.ListN.{length, getD, take, length-append}
 use lib.Seq.{take-at, drop-at}
 use lib.Dec.{leb, eqb}
-use Rattle.message.specs.Header.{totalLength, whole}
-use Rattle.message.proofs.Whole.{whole-length, whole-long}
+use Rattle.message.specs.Header.{isMessage, totalLength}
+use Rattle.message.proofs.Formed.{message-length, message-long}
 use Rattle.channel.specs.Numbers.{need}
 use Rattle.channel.specs.Outcome.{Outcome}
 use Rattle.channel.specs.Ring.{allowed}
@@ -21,11 +21,11 @@ use Rattle.delivery.specs.Operations.{Channel, Op, Seen, after, end, pla
 use Rattle.delivery.specs.Plain.{Answer, Plain, Receiving, Sending, descriptor, fresh, notSending, sending}
 use Rattle.delivery.specs.Plain
 use Rattle.delivery.proofs.Facts.{HoldsMessage, Lacks, RanWhole, StepFacts, facts, serialOf}
-use Rattle.delivery.proofs.Invariant.{AllWhole, Inv, bad, cases, channelOf, ok, plain, sendState, senderOf, used-eq}
+use Rattle.delivery.proofs.Invariant.{AllMessages, Inv, cases, channelOf, plain, sendState, senderOf, used-eq}
 use Rattle.delivery.proofs.Ring.{apart, flat, stores, window-mod}
 use Rattle.delivery.proofs.SendSteps.{SendSim, asSender}
 use Rattle.delivery.proofs.Simulation.{begin-eq, end-good, end-sim, fresh-good, open-code, run-sim, step-sim}
-use Rattle.delivery.proofs.Wholes.{roomNumber, send-moves, send-whole-midcall, send-whole-refused}
+use Rattle.delivery.proofs.Wholes.{send-moves}
 use Rattle.delivery.proofs.SendSteps
 
 -- ---- messages
@@ -40,14 +40,14 @@ flow-run (o ∷ os) p g c h =
     let i : x .queue ++ published (held c o a) os (plainRun x os) ≡ received os (plainRun x os) ++ plainEnd x os .queue = flow-run os x (step-sim p g o .good) (held c o a) (f .holds c h) in
     sym (append-assoc (p .queue) (publishedBy c o a) _) ∙ ap (λ (l : List (List ℕ)). l ++ published (held c o a) os (plainRun x os)) (f .flow c h) ∙ append-assoc (receivedBy o a) (x .queue) _ ∙ ap (λ (l : List (List ℕ)). receivedBy o a ++ l) i ∙ sym (append-assoc (receivedBy o a) (received os (plainRun x os)) (plainEnd x os .queue))
 
-cut-flat : (f : ℕ) (q : List (List ℕ)) → AllWhole q → length (flat q) ≤ f → cut f (flat q) ≡ q
+cut-flat : (f : ℕ) (q : List (List ℕ)) → AllMessages q → length (flat q) ≤ f → cut f (flat q) ≡ q
 unfolding cut flat
 cut-flat zero [] a h = refl
 cut-flat (suc f) [] a h = refl
-cut-flat f ([] ∷ q) a h = absurd (omega (arith, whole-long [] (a .0)))
+cut-flat f ([] ∷ q) a h = absurd (omega (arith, message-long [] (a .0)))
 cut-flat zero ((x ∷ m) ∷ q) a h = absurd (omega arith)
 cut-flat (suc f) ((x ∷ m) ∷ q) a h =
-    let e : length (x ∷ m) ≡ totalLength x = whole-length (x ∷ m) (a .0) in
+    let e : length (x ∷ m) ≡ totalLength x = message-length (x ∷ m) (a .0) in
     let l : length (flat q) ≤ f = omega (arith, length-append m (flat q)) in
     λ i. take-at (x ∷ m) (flat q) (totalLength x) e i ∷ (ap (cut f) (drop-at (x ∷ m) (flat q) (totalLength x) e) ∙ cut-flat f q (a .1) l) i
 
@@ -55,7 +55,7 @@ unread-queue : (p : Plain) → Inv p → unread (descriptor p) (p .buf) ≡ p .q
 unfolding unread descriptor
 unread-queue p g =
     let e : window (p .buf) (p .n) (p .R % p .n) (length (flat (p .queue))) ≡ flat (p .queue) = window-mod (p .buf) (p .n) (p .R % p .n) (p .R) (length (flat (p .queue))) (mod-mod (p .R) (p .n)) ∙ g .in-buffer in
-    rw (used-eq p g, g .size, e) (cut-flat (p .n) (p .queue) (g .all-whole) (omega (arith, g .room)))
+    rw (used-eq p g, g .size, e) (cut-flat (p .n) (p .queue) (g .all-messages) (omega (arith, g .room)))
 
 -- ---- the calls that ended, run whole
 
@@ -115,7 +115,7 @@ module _ (n : ℕ) (b : List ℕ) (q : List (List ℕ)) (P R : ℕ) (r : Receivi
 
   -- midway through a whole send
   midway-place :
-      (m : List ℕ) → Inv (plain n b q P R notSending r) → whole m ≡ true → leb (length m) (n - 1 - (P - R)) ≡ true → (k : ℕ) → k < length m
+      (m : List ℕ) → Inv (plain n b q P R notSending r) → isMessage m ≡ true → leb (length m) (n - 1 - (P - R)) ≡ true → (k : ℕ) → k < length m
       → Send.place (midway (channelOf (plain n b q P R notSending r)) m k .next) (midway (channelOf (plain n b q P R notSending r)) m k .buf) ≡ (P % n + k) % n
   unfolding Plain.sendLookBy Plain.sendLookNumber need
   midway-place m g t u k h =
@@ -126,18 +126,20 @@ module _ (n : ℕ) (b : List ℕ) (q : List (List ℕ)) (P R : ℕ) (r : Receivi
       let z : length (stores b n P (take k m)) ≡ n = sym (ap (λ (v : Plain). length (v .buf)) y) ∙ w .good .size ∙ ap (λ (v : Plain). v .n) y in
       ap (λ (a : Outcome). Send.place (a .next) (a .buf)) (ap (Send.moves k) (l .same) ∙ w .same) ∙ ap (λ (v : Plain). Send.place (senderOf v) (v .buf)) y ∙ ap (λ (x : ℕ). (P % n + k) % x) z
 
-  whole-safe : (s : Sending) (m : List ℕ) → Inv (plain n b q P R s r) → Plain.sendWhole (plain n b q P R s r) m .code ≡ 0 → Unreleased (plain n b q P R s r) j → (k : ℕ) → k < length m → j ≡ Send.place (midway (channelOf (plain n b q P R s r)) m k .next) (midway (channelOf (plain n b q P R s r)) m k .buf) → ⊥
-  unfolding roomNumber
+  whole-safe :
+      (s : Sending) (m : List ℕ) → Inv (plain n b q P R s r) → Plain.sendLook (plain n b q P R s r) m .code ≡ 0
+      → Unreleased (plain n b q P R s r) j → (k : ℕ) → k < length m
+      → j ≡ Send.place (midway (channelOf (plain n b q P R s r)) m k .next) (midway (channelOf (plain n b q P R s r)) m k .buf) → ⊥
+  unfolding Plain.sendLookBy Plain.sendLookNumber need
   whole-safe notSending m g e w k h f =
-      cases (whole m)
+      cases (isMessage m)
       (λ t. cases (leb (length m) (n - 1 - (P - R)))
       (λ u.
       let v : length m ≤ n - 1 - (P - R) = leb-true (length m) (n - 1 - (P - R)) u in
       clear notSending g k (length m) h (omega (arith, g .count, g .room)) w (f ∙ midway-place m g t u k h))
-      (λ u. let z : _≡_ {A = ℕ} 10 0 = sym (ap (λ (x : Answer). x .code) (send-whole-refused n b q P R r m 10 (ok 4 t ∙ bad 0 u) refl)) ∙ e in omega arith))
-      (λ t. let z : _≡_ {A = ℕ} 4 0 = sym (ap (λ (x : Answer). x .code) (send-whole-refused n b q P R r m 4 (bad _ t) refl)) ∙ e in omega arith)
-  whole-safe (sending k₀ m₀) m g e w k h f =
-      let z : _≡_ {A = ℕ} 3 0 = sym (ap (λ (x : Answer). x .code) (send-whole-midcall n b q P R r m k₀ m₀)) ∙ e in omega arith
+      (λ u. let z : _≡_ {A = ℕ} 10 0 = rw (t, u) at e in omega arith))
+      (λ t. let z : _≡_ {A = ℕ} 4 0 = rw t at e in omega arith)
+  whole-safe (sending k₀ m₀) m g e w k h f = let z : _≡_ {A = ℕ} 3 0 = e in omega arith
 
 no-store : (p : Plain) → Inv p → (o : Op) (j : ℕ) → Unreleased p j → StoresAt (channelOf p) o j → ⊥
 unfolding Plain.sendMoveBy
@@ -146,7 +148,7 @@ no-store p g sendMove j w s =
     move-safe (p .n) (p .buf) (p .queue) (p .P) (p .R) (p .receive) j (p .send) g (sym (ap (λ (x : Seen). x .code) (step-sim p g sendMove .same)) ∙ s .0) w (s .1)
 no-store p g sendPublish j w s = s
 no-store p g (sendWhole m) j w s =
-    whole-safe (p .n) (p .buf) (p .queue) (p .P) (p .R) (p .receive) j (p .send) m g (sym (ap (λ (x : Seen). x .code) (step-sim p g (sendWhole m) .same)) ∙ s .0) w (s .1) (s .2) (s .3)
+    whole-safe (p .n) (p .buf) (p .queue) (p .P) (p .R) (p .receive) j (p .send) m g (sym (ap (λ (x : Seen). x .code) (step-sim p g (sendLook m) .same)) ∙ s .0) w (s .1) (s .2) (s .3)
 no-store p g receiveLook j w s = s
 no-store p g receiveMove j w s = s
 no-store p g (receivePublish o) j w s = s

@@ -9,7 +9,7 @@ use borrow.Author.Tests.{le-leb, ne-eqb}
 use lib.ListN.{length, getD, take, drop, set}
 use lib.Seq.{take-suc, take-all, length-take-le}
 use lib.Dec.{leb, eqb}
-use Rattle.message.specs.Header.{whole}
+use Rattle.message.specs.Header.{isMessage}
 use Rattle.channel.specs.Numbers.{need}
 use Rattle.delivery.specs.Plain.{Answer, Plain, Receiving, Sending, first, notReceiving, notSending, receiving, sending}
 use Rattle.delivery.specs.Plain
@@ -22,7 +22,7 @@ refusal c o p = record { code = c; len = 0; out = o; next = p }
 
 -- the number of a send's look, where the sender is not mid-call
 unfoldable pub roomNumber : ℕ → ℕ → ℕ → List ℕ → ℕ
-roomNumber n P R m = need (whole m) 4 (need (leb (length m) (n - 1 - (P - R))) 10 0)
+roomNumber n P R m = need (isMessage m) 4 (need (leb (length m) (n - 1 - (P - R))) 10 0)
 
 pub stores-take : (b : List ℕ) (n P : ℕ) (m : List ℕ) (k : ℕ) → k < length m → set (stores b n P (take k m)) ((P + k) % n) (getD m k 0) ≡ stores b n P (take (suc k) m)
 stores-take b n P m k h =

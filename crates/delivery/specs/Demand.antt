@@ -2,11 +2,10 @@
 -- the channel has done what document 01's plain channel does'. One record, a field for each sentence of the demand.
 use Prim.Native.Nat.{ℕ, zero, suc, _+_, _%_, _≤_, _<_}
 use mathlib.Core.Path.{_≡_}
-use mathlib.Core.Bool.{Bool, true, _||_}
+use mathlib.Core.Bool.{Bool, true, _||_, cond}
 use mathlib.Core.List.{List, [], _∷_, _++_, map}
 use lib.ListN.{length, getD, take, drop}
 use lib.Dec.{eqb}
-use Rattle.message.specs.Types.{pick}
 use Rattle.message.specs.Header.{totalLength}
 use Rattle.channel.specs.Ring.{allowed, head, tail, used}
 use Rattle.channel.specs.Outcome.{Outcome}
@@ -19,7 +18,7 @@ use Rattle.delivery.specs.Operations.{Op, sendLook, sendMove, sendPublis
 
 -- the message of the send that is mid-call: that of its last look answered 0
 abbrev pub held : List ℕ → Op → Seen → List ℕ
-held c (sendLook m) a = pick (eqb (a .code) 0) m c
+held c (sendLook m) a = cond (eqb (a .code) 0) m c
 held c sendMove a = c
 held c sendPublish a = c
 held c (sendWhole m) a = c
@@ -32,8 +31,8 @@ held c (receiveWhole o) a = c
 abbrev pub publishedBy : List ℕ → Op → Seen → List (List ℕ)
 publishedBy c (sendLook m) a = []
 publishedBy c sendMove a = []
-publishedBy c sendPublish a = pick (eqb (a .code) 0) (c ∷ []) []
-publishedBy c (sendWhole m) a = pick (eqb (a .code) 0) (m ∷ []) []
+publishedBy c sendPublish a = cond (eqb (a .code) 0) (c ∷ []) []
+publishedBy c (sendWhole m) a = cond (eqb (a .code) 0) (m ∷ []) []
 publishedBy c receiveLook a = []
 publishedBy c receiveMove a = []
 publishedBy c (receivePublish o) a = []
@@ -52,8 +51,8 @@ receivedBy sendPublish a = []
 receivedBy (sendWhole m) a = []
 receivedBy receiveLook a = []
 receivedBy receiveMove a = []
-receivedBy (receivePublish o) a = pick (eqb (a .code) 0) (take (a .len) (a .out) ∷ []) []
-receivedBy (receiveWhole o) a = pick (eqb (a .code) 0) (take (a .len) (a .out) ∷ []) []
+receivedBy (receivePublish o) a = cond (eqb (a .code) 0) (take (a .len) (a .out) ∷ []) []
+receivedBy (receiveWhole o) a = cond (eqb (a .code) 0) (take (a .len) (a .out) ∷ []) []
 
 unfoldable pub received : List Op → List Seen → List (List ℕ)
 received [] ss = []
@@ -88,13 +87,14 @@ pub record Unreleased (p : Plain) (j : ℕ) : Type 0 where
 abbrev pub midway : Channel → List ℕ → ℕ → Outcome
 midway x m k = Send.moves k (Send.look (x .sender) m (x .desc) (x .buf))
 
--- place j is where the operation stores a dword: 'the place .. of a send's store, in whole calls too'
+-- place j is where the operation stores a dword: 'the place (P + k) mod N of a send's store, in whole calls too'. A whole send stores where its
+-- look is accepted, dword k after k others.
 abbrev pub StoresAt : Channel → Op → ℕ → Type 0
 StoresAt x (sendLook m) j = ⊥
 StoresAt x sendMove j = (outcome x sendMove .code ≡ 0) × (j ≡ Send.place (x .sender) (x .buf))
 StoresAt x sendPublish j = ⊥
 StoresAt x (sendWhole m) j =
-    (outcome x (sendWhole m) .code ≡ 0) × (k : ℕ) × (k < length m) × (j ≡ Send.place (midway x m k .next) (midway x m k .buf))
+    (outcome x (sendLook m) .code ≡ 0) × (k : ℕ) × (k < length m) × (j ≡ Send.place (midway x m k .next) (midway x m k .buf))
 StoresAt x receiveLook j = ⊥
 StoresAt x receiveMove j = ⊥
 StoresAt x (receivePublish o) j = ⊥
@@ -124,15 +124,15 @@ call o r = record { op = o; answer = r } ∷ []
 -- it ended at its look, any 256 dwords, which stay. Other refusals end no call.'
 -- `e` are those 256 dwords; c is the message of the send that is mid-call.
 abbrev pub endedBy : List ℕ → List ℕ → Op → Seen → List Call
-endedBy e c (sendLook m) a = pick (eqb (a .code) 0 || eqb (a .code) 3) [] (call (sendWhole m) (result a))
+endedBy e c (sendLook m) a = cond (eqb (a .code) 0 || eqb (a .code) 3) [] (call (sendWhole m) (result a))
 endedBy e c sendMove a = []
-endedBy e c sendPublish a = pick (eqb (a .code) 0) (call (sendWhole c) (result a)) []
-endedBy e c (sendWhole m) a = pick (eqb (a .code) 3) [] (call (sendWhole m) (result a))
+endedBy e c sendPublish a = cond (eqb (a .code) 0) (call (sendWhole c) (result a)) []
+endedBy e c (sendWhole m) a = cond (eqb (a .code) 3) [] (call (sendWhole m) (result a))
 endedBy e c receiveLook a =
-    pick (eqb (a .code) 0 || eqb (a .code) 3) [] (call (receiveWhole e) (record { code = a .code; len = 0; out = e }))
+    cond (eqb (a .code) 0 || eqb (a .code) 3) [] (call (receiveWhole e) (record { code = a .code; len = 0; out = e }))
 endedBy e c receiveMove a = []
-endedBy e c (receivePublish o) a = pick (eqb (a .code) 0) (call (receiveWhole o) (result a)) []
-endedBy e c (receiveWhole o) a = pick (eqb (a .code) 3) [] (call (receiveWhole o) (result a))
+endedBy e c (receivePublish o) a = cond (eqb (a .code) 0) (call (receiveWhole o) (result a)) []
+endedBy e c (receiveWhole o) a = cond (eqb (a .code) 3) [] (call (receiveWhole o) (result a))
 
 -- the calls that ended, in the order of their ends. `any` gives 256 dwords for each place in the list, so that they may differ from call to call
 unfoldable pub ended : (ℕ → List ℕ) → List ℕ → List Op → List Seen → List Call

@@ -1,3 +1,4 @@
 pub mod Plain
 pub mod Operations
 pub mod Demand
+pub mod Loopback

@@ -1,11 +1,10 @@
 -- Document 01, 'The plain channel', in its words and order.
 use Prim.Native.Nat.{ℕ, zero, suc, _+_, _-_, _%_}
-use mathlib.Core.Bool.{Bool, true, false, not}
+use mathlib.Core.Bool.{Bool, true, false, not, cond}
 use mathlib.Core.List.{List, [], _∷_, _++_}
 use lib.ListN.{length, getD, drop, set, replicate}
 use lib.Dec.{leb, eqb}
-use Rattle.message.specs.Types.{pick}
-use Rattle.message.specs.Header.{whole}
+use Rattle.message.specs.Header.{isMessage}
 use Rattle.channel.specs.Numbers.{need}
 
 -- 'for each side whether it is mid-call (not at first), with k dwords moved and a send's message'
@@ -86,11 +85,11 @@ withReceive p x =
 
 unfoldable pub sendLookNumber : Plain → List ℕ → ℕ
 sendLookNumber p m =
-    lookSend (p .send) (need (whole m) 4 (need (leb (length m) (p .n - 1 - (p .P - p .R))) 10 0))
+    lookSend (p .send) (need (isMessage m) 4 (need (leb (length m) (p .n - 1 - (p .P - p .R))) 10 0))
 
 -- 'A look answered 0 makes its side mid-call, a send's with that message'
 unfoldable pub sendLookBy : ℕ → Plain → List ℕ → Answer
-sendLookBy c p m = record { code = c; len = 0; out = []; next = pick (eqb c 0) (withSend p (sending 0 m) (p .buf)) p }
+sendLookBy c p m = record { code = c; len = 0; out = []; next = cond (eqb c 0) (withSend p (sending 0 m) (p .buf)) p }
 
 abbrev pub sendLook : Plain → List ℕ → Answer
 sendLook p m = sendLookBy (sendLookNumber p m) p m
@@ -100,7 +99,7 @@ unfoldable pub receiveLookNumber : Plain → ℕ
 receiveLookNumber p = lookReceive (p .receive) (need (pending (p .queue)) 11 0)
 
 unfoldable pub receiveLookBy : ℕ → Plain → Answer
-receiveLookBy c p = record { code = c; len = 0; out = []; next = pick (eqb c 0) (withReceive p (receiving 1)) p }
+receiveLookBy c p = record { code = c; len = 0; out = []; next = cond (eqb c 0) (withReceive p (receiving 1)) p }
 
 abbrev pub receiveLook : Plain → Answer
 receiveLook p = receiveLookBy (receiveLookNumber p) p
@@ -115,7 +114,7 @@ sendMoved p notSending = p
 sendMoved p (sending k m) = withSend p (sending (k + 1) m) (set (p .buf) ((p .P + k) % p .n) (getD m k 0))
 
 unfoldable pub sendMoveBy : ℕ → Plain → Answer
-sendMoveBy c p = record { code = c; len = 0; out = []; next = pick (eqb c 0) (sendMoved p (p .send)) p }
+sendMoveBy c p = record { code = c; len = 0; out = []; next = cond (eqb c 0) (sendMoved p (p .send)) p }
 
 abbrev pub sendMove : Plain → Answer
 sendMove p = sendMoveBy (sendMoveNumber p) p
@@ -129,7 +128,7 @@ receiveMoved (receiving k) = receiving (k + 1)
 
 unfoldable pub receiveMoveBy : ℕ → Plain → Answer
 receiveMoveBy c p =
-    record { code = c; len = 0; out = []; next = pick (eqb c 0) (withReceive p (receiveMoved (p .receive))) p }
+    record { code = c; len = 0; out = []; next = cond (eqb c 0) (withReceive p (receiveMoved (p .receive))) p }
 
 abbrev pub receiveMove : Plain → Answer
 receiveMove p = receiveMoveBy (receiveMoveNumber p) p
@@ -154,7 +153,7 @@ sendPublished p (sending k m) =
     }
 
 unfoldable pub sendPublishBy : ℕ → Plain → Answer
-sendPublishBy c p = record { code = c; len = 0; out = []; next = pick (eqb c 0) (sendPublished p (p .send)) p }
+sendPublishBy c p = record { code = c; len = 0; out = []; next = cond (eqb c 0) (sendPublished p (p .send)) p }
 
 abbrev pub sendPublish : Plain → Answer
 sendPublish p = sendPublishBy (sendPublishNumber p) p
@@ -180,9 +179,9 @@ unfoldable pub receivePublishBy : ℕ → Plain → List ℕ → Answer
 receivePublishBy c p o =
     record {
       code = c;
-      len = pick (eqb c 0) (length (first (p .queue))) 0;
-      out = pick (eqb c 0) (first (p .queue) ++ drop (length (first (p .queue))) o) o;
-      next = pick (eqb c 0) (receivePublished p) p;
+      len = cond (eqb c 0) (length (first (p .queue))) 0;
+      out = cond (eqb c 0) (first (p .queue) ++ drop (length (first (p .queue))) o) o;
+      next = cond (eqb c 0) (receivePublished p) p;
     }
 
 abbrev pub receivePublish : Plain → List ℕ → Answer
@@ -196,7 +195,7 @@ sendMoves (suc k) x = sendMoves k (sendMove (x .next))
 
 -- after the look: L moves and the publish. The look's own 3 is the whole call's.
 unfoldable pub sendRest : ℕ → Answer → Answer
-sendRest l x = pick (eqb (x .code) 0) (sendPublish (sendMoves l x .next)) x
+sendRest l x = cond (eqb (x .code) 0) (sendPublish (sendMoves l x .next)) x
 
 abbrev pub sendWhole : Plain → List ℕ → Answer
 sendWhole p m = sendRest (length m) (sendLook p m)
@@ -211,14 +210,14 @@ beside o x = record { code = x .code; len = x .len; out = o; next = x .next }
 
 -- after the look, which moved the first dword: L - 1 moves and the publish
 unfoldable pub receiveRest : ℕ → List ℕ → Answer → Answer
-receiveRest l o x = pick (eqb (x .code) 0) (receivePublish (receiveMoves (l - 1) x .next) o) (beside o x)
+receiveRest l o x = cond (eqb (x .code) 0) (receivePublish (receiveMoves (l - 1) x .next) o) (beside o x)
 
 unfoldable pub receiveWholeNumber : Plain → List ℕ → ℕ
 receiveWholeNumber p o = lookReceive (p .receive) (need (leb 256 (length o)) 5 0)
 
 unfoldable pub receiveWholeBy : ℕ → Plain → List ℕ → Answer
 receiveWholeBy c p o =
-    pick (eqb c 0)
+    cond (eqb c 0)
     (receiveRest (length (first (p .queue))) o (receiveLook p))
     (record { code = c; len = 0; out = o; next = p })
 

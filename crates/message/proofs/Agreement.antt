@@ -1,9 +1,9 @@
--- Demand 2 for messages, proved: unpacking reads exactly the table's fields, and packing and unpacking undo each other, for every
--- type at once. Assumes nothing.
+-- Messages agree with the tables: unpacking reads exactly the table's fields, and packing and unpacking undo each other, for every type
+-- at once. Assumes nothing.
 use Prim.Native.Nat.{ℕ, _+_, _*_, _%_, _≤_, _<_, _^_}
 use mathlib.Core.Path.{_≡_, refl, sym, ap, _∙_, subst}
 use mathlib.Core.Logic.{_↔_}
-use mathlib.Core.Bool.{Bool, true, false, _&&_}
+use mathlib.Core.Bool.{Bool, true, false, _&&_, cond}
 use mathlib.Core.List.{List, [], _∷_}
 use mathlib.Core.Option.{Option, none, some}
 use native.Mathlib.Omega.{arith}
@@ -11,19 +11,19 @@ use native.Mathlib.Nat.{mod-eq-of-lt, zero-mul, zero-add}
 use lib.ListN.{length, getD}
 use lib.Dec.{eqb, leb, ltb}
 use borrow.Author.Tests.{eqb-true, eqb-false, leb-true, eq-eqb, le-leb}
-use Rattle.message.specs.Fields.{Field, fence, format, reserved, numDwords, origin, get, Entry, fit, dword, holds}
-use Rattle.message.specs.Types.{pick, bodyFields, bodyOf, known, isSome}
-use Rattle.message.specs.Header.{totalLength, whole}
+use Rattle.message.specs.Fields.{Field, fence, format, reserved, numDwords, origin, fieldOf, Entry, fit, dword, holds}
+use Rattle.message.specs.Types.{bodyFields, bodyOf, known, someBody}
+use Rattle.message.specs.Header.{totalLength, isMessage}
 use Rattle.message.specs.Words.{originNumber, originOf, decoded, unpack, headerFields, hxgFields, pack}
-use Rattle.message.specs.Agreement.{AreDwords, Agreement}
+use Rattle.message.specs.Agreement.{Agreement}
 use Rattle.message.specs.declared.Origin.{Origin}
 use Rattle.message.specs.declared.Origin.the-variants.{Host, Guc}
 use Rattle.message.specs.declared.Body.{Body}
 use Rattle.message.specs.declared.Message.{Message}
 use Rattle.message.proofs.Tests.{and-l, and-r, and-i}
 use Rattle.message.proofs.Tiling.{tiles, holds-first, holds-rest, holds-fit, dword-lt, dword-holds, dword-again}
-use Rattle.message.proofs.Types.{known-body, body-known, body-holds, holds-body}
-use Rattle.message.proofs.Whole.{WellFormed, whole-length, whole-well, whole-i}
+use Rattle.message.proofs.Types.{known-is, known-body, body-known, body-holds, holds-body}
+use Rattle.message.proofs.Formed.{WellFormed, message-length, message-well, message-i}
 use Rattle.message.proofs.Words.{header-tiles, hxg-tiles, unpack-some, unpack-none}
 
 -- the origin's bit, there and back
@@ -36,7 +36,7 @@ origin-there : (bit : ℕ) → bit < 2 → originNumber (originOf bit) ≡ bit
 unfolding originOf originNumber
 origin-there bit l = go (eqb bit 0) refl
   where
-    go : (t : Bool) → eqb bit 0 ≡ t → originNumber (pick t Host Guc) ≡ bit
+    go : (t : Bool) → eqb bit 0 ≡ t → originNumber (cond t Host Guc) ≡ bit
     go true e = omega (arith, eqb-true bit 0 e)
     go false e = omega (arith, eqb-false bit 0 e)
 
@@ -50,25 +50,25 @@ decoded-header h w b f = simp (eqb-self, eq-eqb _ _ (f .format-zero), eq-eqb _ _
 
 decoded-hxg : (h w : ℕ) (b : Body) → bodyOf w ≡ some b → holds (hxgFields (decoded h w b)) w ≡ true
 unfolding holds hxgFields decoded
-decoded-hxg h w b e = simp (origin-there (get origin w) (omega arith), eqb-self, body-holds w b e)
+decoded-hxg h w b e = simp (origin-there (fieldOf origin w) (omega arith), eqb-self, body-holds w b e)
 
 -- what unpacks is whole, and is what its two dwords hold
 pub record Unpacks (d : List ℕ) (m : Message) : Type 0 where
-  pub is-whole : whole d ≡ true
+  pub is-message : isMessage d ≡ true
   pub header : holds (headerFields m) (getD d 0 0) ≡ true
   pub hxg : holds (hxgFields m) (getD d 1 0) ≡ true
 
 unpacks : (d : List ℕ) (m : Message) → unpack d ≡ some m → Unpacks d m
-unpacks d m u = go (whole d) refl
+unpacks d m u = go (isMessage d) refl
   where
-    go : (t : Bool) → whole d ≡ t → Unpacks d m
+    go : (t : Bool) → isMessage d ≡ t → Unpacks d m
     go false e = let z : _≡_ {A = ℕ} 0 1 = cc (unpack-none d e) in absurd (omega arith)
     go true e =
-        let f = whole-well d e in
+        let f = message-well d e in
         let k = known-body (getD d 1 0) (f .known-type) in
         let same : decoded (getD d 0 0) (getD d 1 0) (k .0) ≡ m = cc (unpack-some d (k .0) e (k .1)) in
         record {
-          is-whole = e;
+          is-message = e;
           header = subst (λ (x : Message). holds (headerFields x) (getD d 0 0) ≡ true) same (decoded-header (getD d 0 0) (getD d 1 0) (k .0) f);
           hxg = subst (λ (x : Message). holds (hxgFields x) (getD d 1 0) ≡ true) same (decoded-hxg (getD d 0 0) (getD d 1 0) (k .0) (k .1));
         }
@@ -77,15 +77,15 @@ unpacks d m u = go (whole d) refl
 decoded-same : (h w : ℕ) (m : Message) → holds (headerFields m) h ≡ true → holds (hxgFields m) w ≡ true → decoded h w (m .body) ≡ m
 unfolding headerFields hxgFields decoded
 decoded-same h w m e f =
-    let o : originOf (get origin w) ≡ m .origin = ap originOf (holds-first _ _ w f) ∙ origin-back (m .origin) in
-    let x : get fence h ≡ m .fence = holds-first _ _ h e in
-    let n : get numDwords h ≡ m .«num_dwords» = holds-first _ _ h (holds-rest _ _ h (holds-rest _ _ h (holds-rest _ _ h e))) in
+    let o : originOf (fieldOf origin w) ≡ m .origin = ap originOf (holds-first _ _ w f) ∙ origin-back (m .origin) in
+    let x : fieldOf fence h ≡ m .fence = holds-first _ _ h e in
+    let n : fieldOf numDwords h ≡ m .«num_dwords» = holds-first _ _ h (holds-rest _ _ h (holds-rest _ _ h (holds-rest _ _ h e))) in
     λ i. record { origin = o i; fence = x i; «num_dwords» = n i; body = m .body }
 
 unpacks-i : (d : List ℕ) (m : Message) → Unpacks d m → unpack d ≡ some m
 unfolding hxgFields
 unpacks-i d m u =
-    unpack-some d (m .body) (u .is-whole) (holds-body (getD d 1 0) (m .body) (holds-rest _ _ (getD d 1 0) (u .hxg)))
+    unpack-some d (m .body) (u .is-message) (holds-body (getD d 1 0) (m .body) (holds-rest _ _ (getD d 1 0) (u .hxg)))
     ∙ ap some (decoded-same (getD d 0 0) (getD d 1 0) m (u .header) (u .hxg))
 
 -- what packs fits, and gives the dwords of its fields
@@ -101,7 +101,7 @@ unfolding pack
 packs m h w e = go (leb 1 (m .«num_dwords») && fit (headerFields m) && fit (hxgFields m)) refl e
   where
     go : (t : Bool) → (leb 1 (m .«num_dwords») && fit (headerFields m) && fit (hxgFields m)) ≡ t
-        → pick {A = Option (ℕ × ℕ)} t (some (dword (headerFields m), dword (hxgFields m))) none ≡ some (h, w) → Packs m h w
+        → cond {A = Option (ℕ × ℕ)} t (some (dword (headerFields m), dword (hxgFields m))) none ≡ some (h, w) → Packs m h w
     go true q f =
         let both : _≡_ {A = ℕ × ℕ} (dword (headerFields m), dword (hxgFields m)) (h, w) = cc in
         record {
@@ -135,7 +135,7 @@ there m h w rest e n =
     let ew = made-holds (hxgFields m) w (hxg-tiles m) (p .hxg-fits) (p .hxg) in
     let eh₁ = holds-rest _ _ h eh in
     let eh₂ = holds-rest _ _ h eh₁ in
-    let num : get numDwords h ≡ m .«num_dwords» = holds-first _ _ h (holds-rest _ _ h eh₂) in
+    let num : fieldOf numDwords h ≡ m .«num_dwords» = holds-first _ _ h (holds-rest _ _ h eh₂) in
     let k : known w ≡ true = body-known w (m .body) (holds-body w (m .body) (holds-rest _ _ w ew)) in
     let f : WellFormed h w = record {
       format-zero = holds-first _ _ h eh₁;
@@ -144,29 +144,64 @@ there m h w rest e n =
       high = omega arith;
       known-type = k;
     } in
-    unpacks-i (h ∷ w ∷ rest) m (record { is-whole = whole-i (h ∷ w ∷ rest) (omega arith) f; header = eh; hxg = ew })
+    unpacks-i (h ∷ w ∷ rest) m (record { is-message = message-i (h ∷ w ∷ rest) (omega arith) f; header = eh; hxg = ew })
 
 -- NUM_DWORDS of a message that unpacks is not 0
 header-low : (d : List ℕ) (m : Message) → Unpacks d m → 1 ≤ m .«num_dwords»
 unfolding headerFields
 header-low d m u =
     let e = u .header in
-    omega (arith, whole-well d (u .is-whole) .low, holds-first _ _ (getD d 0 0) (holds-rest _ _ (getD d 0 0) (holds-rest _ _ (getD d 0 0) (holds-rest _ _ (getD d 0 0) e))))
+    omega (arith, message-well d (u .is-message) .low, holds-first _ _ (getD d 0 0) (holds-rest _ _ (getD d 0 0) (holds-rest _ _ (getD d 0 0) (holds-rest _ _ (getD d 0 0) e))))
 
-back : (d : List ℕ) (m : Message) → AreDwords d → unpack d ≡ some m → pack m ≡ some (getD d 0 0, getD d 1 0)
-back d m l e =
+-- what unpacks fits its places, so that it packs
+packs-again : (d : List ℕ) (m : Message) → Unpacks d m → pack m ≡ some (dword (headerFields m), dword (hxgFields m))
+packs-again d m u =
+    packs-i m (header-low d m u) (holds-fit (headerFields m) (getD d 0 0) (u .header)) (holds-fit (hxgFields m) (getD d 1 0) (u .hxg))
+
+back : (d : List ℕ) (m : Message) → getD d 0 0 < 2 ^ 32 → getD d 1 0 < 2 ^ 32 → unpack d ≡ some m → pack m ≡ some (getD d 0 0, getD d 1 0)
+back d m lh lw e =
     let u = unpacks d m e in
-    let eh = made-again (headerFields m) (getD d 0 0) (l 0) (header-tiles m) (u .header) in
-    let ew = made-again (hxgFields m) (getD d 1 0) (l 1) (hxg-tiles m) (u .hxg) in
-    rw (packs-i m (header-low d m u) (holds-fit (headerFields m) (getD d 0 0) (u .header)) (holds-fit (hxgFields m) (getD d 1 0) (u .hxg)), eh, ew)
+    let eh = made-again (headerFields m) (getD d 0 0) lh (header-tiles m) (u .header) in
+    let ew = made-again (hxgFields m) (getD d 1 0) lw (hxg-tiles m) (u .hxg) in
+    rw (packs-again d m u, eh, ew)
+
+never : (d : List ℕ) (m : Message) → pack m ≡ none → unpack d ≡ some m → ⊥
+never d m n e = let z : _≡_ {A = ℕ} 0 1 = cc (packs-again d m (unpacks d m e)) in omega arith
+
+packs-to : (m : Message) (h w : ℕ) → pack m ≡ some (h, w) → (1 ≤ m .«num_dwords») × (holds (headerFields m) h ≡ true) × (holds (hxgFields m) w ≡ true)
+packs-to m h w e =
+    let p = packs m h w e in
+    (p .low, made-holds (headerFields m) h (header-tiles m) (p .header-fits) (p .header), made-holds (hxgFields m) w (hxg-tiles m) (p .hxg-fits) (p .hxg))
+
+packs-from :
+    (m : Message) (h w : ℕ) → h < 2 ^ 32 → w < 2 ^ 32
+    → (1 ≤ m .«num_dwords») × (holds (headerFields m) h ≡ true) × (holds (hxgFields m) w ≡ true) → pack m ≡ some (h, w)
+packs-from m h w lh lw u =
+    let eh = made-again (headerFields m) h lh (header-tiles m) (u .1) in
+    let ew = made-again (hxgFields m) w lw (hxg-tiles m) (u .2) in
+    rw (packs-i m (u .0) (holds-fit (headerFields m) h (u .1)) (holds-fit (hxgFields m) w (u .2)), eh, ew)
 
 pub agreement : Agreement
-agreement = record {
-  accepts = λ d e. let k = known-body (getD d 1 0) (whole-well d e .known-type) in (decoded (getD d 0 0) (getD d 1 0) (k .0), unpack-some d (k .0) e (k .1));
-  refuses = unpack-none;
-  exact = λ d m. (λ e. let u = unpacks d m e in (u .is-whole, u .header, u .hxg), λ u. unpacks-i d m (record { is-whole = u .0; header = u .1; hxg = u .2 }));
-  dwords = λ m h w e. let p = packs m h w e in (subst (λ (x : ℕ). x < 2 ^ 32) (p .header) (dword-lt 32 (headerFields m) (header-tiles m) (p .header-fits)), subst (λ (x : ℕ). x < 2 ^ 32) (p .hxg) (dword-lt 32 (hxgFields m) (hxg-tiles m) (p .hxg-fits)));
-  there = there;
-  back = back;
-  never = λ d m l n u. let z : _≡_ {A = ℕ} 0 1 = cc (back d m l u) in omega arith;
-}
+agreement =
+    record {
+      unknown-2 = λ w e. simp (known-is, e);
+      unknown-4 = λ w e. simp (known-is, e);
+      accepts =
+          λ d e. let k = known-body (getD d 1 0) (message-well d e .known-type) in
+          (decoded (getD d 0 0) (getD d 1 0) (k .0), unpack-some d (k .0) e (k .1));
+      refuses = unpack-none;
+      unpacks =
+          λ d m. (
+            λ e. let u = unpacks d m e in (u .is-message, u .header, u .hxg),
+            λ u. unpacks-i d m (record { is-message = u .0; header = u .1; hxg = u .2 }),
+          );
+      packs = λ m h w lh lw. (packs-to m h w, packs-from m h w lh lw);
+      dwords =
+          λ m h w e. let p = packs m h w e in (
+            subst (λ (x : ℕ). x < 2 ^ 32) (p .header) (dword-lt 32 (headerFields m) (header-tiles m) (p .header-fits)),
+            subst (λ (x : ℕ). x < 2 ^ 32) (p .hxg) (dword-lt 32 (hxgFields m) (hxg-tiles m) (p .hxg-fits)),
+          );
+      there = there;
+      back = back;
+      never = never;
+    }

@@ -1,6 +1,6 @@
 pub mod Tests
 pub mod Tiling
 pub mod Types
-pub mod Whole
+pub mod Formed
 pub mod Words
 pub mod Agreement

@@ -10,7 +10,7 @@ use lib.Dec.{eqb, leb, ltb}
 use lib.Pow.{pow-pos, pow-add, mod-pow-add, high, low}
 use lib.Arith.{digits-lt}
 use borrow.Author.Tests.{eqb-true, leb-true, ltb-true, lt-ltb, eq-eqb}
-use Rattle.message.specs.Fields.{Field, place, weight, range, get, Entry, fit, dword, holds}
+use Rattle.message.specs.Fields.{Field, place, weight, limit, fieldOf, Entry, fit, dword, holds}
 use Rattle.message.proofs.Tests.{and-l, and-r, and-i}
 
 -- the fields fill bits t - 1 to 0, each right below the one before
@@ -24,21 +24,21 @@ width f = place f .high + 1 - place f .low
 
 -- what each test says of the first field, and of the rest
 module _ (e : Entry) (es : List Entry) where
-  pub holds-first : (w : ℕ) → holds (e ∷ es) w ≡ true → get (e .0) w ≡ e .1
+  pub holds-first : (w : ℕ) → holds (e ∷ es) w ≡ true → fieldOf (e .0) w ≡ e .1
   unfolding holds
-  holds-first w h = eqb-true (get (e .0) w) (e .1) (and-l (eqb (get (e .0) w) (e .1)) (holds es w) h)
+  holds-first w h = eqb-true (fieldOf (e .0) w) (e .1) (and-l (eqb (fieldOf (e .0) w) (e .1)) (holds es w) h)
 
   pub holds-rest : (w : ℕ) → holds (e ∷ es) w ≡ true → holds es w ≡ true
   unfolding holds
-  holds-rest w h = and-r (eqb (get (e .0) w) (e .1)) (holds es w) h
+  holds-rest w h = and-r (eqb (fieldOf (e .0) w) (e .1)) (holds es w) h
 
-  fit-first : fit (e ∷ es) ≡ true → e .1 < range (e .0)
+  fit-first : fit (e ∷ es) ≡ true → e .1 < limit (e .0)
   unfolding fit
-  fit-first f = ltb-true (e .1) (range (e .0)) (and-l (ltb (e .1) (range (e .0))) (fit es) f)
+  fit-first f = ltb-true (e .1) (limit (e .0)) (and-l (ltb (e .1) (limit (e .0))) (fit es) f)
 
   fit-rest : fit (e ∷ es) ≡ true → fit es ≡ true
   unfolding fit
-  fit-rest f = and-r (ltb (e .1) (range (e .0))) (fit es) f
+  fit-rest f = and-r (ltb (e .1) (limit (e .0))) (fit es) f
 
   module _ (t : ℕ) (p : tiles t (e ∷ es) ≡ true) where
     below : Bool
@@ -64,9 +64,9 @@ pub holds-fit : (es : List Entry) (w : ℕ) → holds es w ≡ true → fit es �
 unfolding fit
 holds-fit [] w h = refl
 holds-fit (e ∷ es) w h =
-    let b : get (e .0) w < range (e .0) = mod-lt (w / weight (e .0)) (pow-pos (place (e .0) .high + 1 - place (e .0) .low)) in
-    and-i (ltb (e .1) (range (e .0))) (fit es)
-    (lt-ltb (e .1) (range (e .0)) (subst (λ (x : ℕ). x < range (e .0)) (holds-first e es w h) b))
+    let b : fieldOf (e .0) w < limit (e .0) = mod-lt (w / weight (e .0)) (pow-pos (place (e .0) .high + 1 - place (e .0) .low)) in
+    and-i (ltb (e .1) (limit (e .0))) (fit es)
+    (lt-ltb (e .1) (limit (e .0)) (subst (λ (x : ℕ). x < limit (e .0)) (holds-first e es w h) b))
     (holds-fit es w (holds-rest e es w h))
 
 -- a dword made of numbers that fit is below 2 ^ t
@@ -88,10 +88,10 @@ dword-holds t hi (e ∷ es) p f =
     let q : hi * 2 ^ t + (v * 2 ^ l + dword es) ≡ (hi * 2 ^ k + v) * 2 ^ l + dword es
     = rw (tiles-first e es t p, pow-add, add-mul, mul-assoc, add-assoc) in
     let r = tiles-rest e es t p in
-    let g : get (e .0) (hi * 2 ^ t + (v * 2 ^ l + dword es)) ≡ v
+    let g : fieldOf (e .0) (hi * 2 ^ t + (v * 2 ^ l + dword es)) ≡ v
     = rw (q, high (hi * 2 ^ k + v) l (dword-lt l es r (fit-rest e es f))) (low hi k (fit-first e es f)) in
-    and-i (eqb (get (e .0) (hi * 2 ^ t + (v * 2 ^ l + dword es))) v) (holds es (hi * 2 ^ t + (v * 2 ^ l + dword es)))
-    (eq-eqb (get (e .0) (hi * 2 ^ t + (v * 2 ^ l + dword es))) v g)
+    and-i (eqb (fieldOf (e .0) (hi * 2 ^ t + (v * 2 ^ l + dword es))) v) (holds es (hi * 2 ^ t + (v * 2 ^ l + dword es)))
+    (eq-eqb (fieldOf (e .0) (hi * 2 ^ t + (v * 2 ^ l + dword es))) v g)
     (rw q (dword-holds l (hi * 2 ^ k + v) es r (fit-rest e es f)))
 
 -- a dword is made of the numbers that its fields hold

@@ -1,15 +1,15 @@
 -- Laws about packing and unpacking that the code's proofs cite. Assumes nothing.
 use Prim.Native.Nat.{ℕ, _+_, _*_, _<_}
 use mathlib.Core.Path.{_≡_, refl}
-use mathlib.Core.Bool.{Bool, true, false, _&&_}
+use mathlib.Core.Bool.{Bool, true, false, _&&_, cond}
 use mathlib.Core.List.{List}
 use mathlib.Core.Option.{Option, none, some, Option·elim}
 use native.Mathlib.Omega.{arith}
 use lib.ListN.{getD}
 use lib.Dec.{ltb, leb}
 use Rattle.message.specs.Fields.{fit, dword}
-use Rattle.message.specs.Types.{pick, carried, bodyFields, bodyOf}
-use Rattle.message.specs.Header.{whole}
+use Rattle.message.specs.Types.{carried, bodyFields, bodyOf}
+use Rattle.message.specs.Header.{isMessage}
 use Rattle.message.specs.Words.{originNumber, headerFields, hxgFields, pack, decoded, unpack}
 use Rattle.message.specs.declared.Origin.{Origin}
 use Rattle.message.specs.declared.Origin.the-variants.{Host, Guc}
@@ -53,7 +53,7 @@ hxg-tiles m = body-tiles (m .body)
 pub pack-is :
     (m : Message)
     → pack m
-    ≡ pick (((leb 1 (m .«num_dwords») && ltb (m .«num_dwords») 256) && ltb (m .fence) 65536) && fit (bodyFields (m .body)))
+    ≡ cond (((leb 1 (m .«num_dwords») && ltb (m .«num_dwords») 256) && ltb (m .fence) 65536) && fit (bodyFields (m .body)))
     (some (m .fence * 65536 + m .«num_dwords», originNumber (m .origin) * 2147483648 + dword (bodyFields (m .body))))
     none
 unfolding pack headerFields hxgFields fit dword
@@ -63,10 +63,10 @@ pack-is m =
     cc
 
 -- a whole message with a body is unpacked, and any other list is not
-pub unpack-some : (d : List ℕ) (b : Body) → whole d ≡ true → bodyOf (getD d 1 0) ≡ some b → unpack d ≡ some (decoded (getD d 0 0) (getD d 1 0) b)
+pub unpack-some : (d : List ℕ) (b : Body) → isMessage d ≡ true → bodyOf (getD d 1 0) ≡ some b → unpack d ≡ some (decoded (getD d 0 0) (getD d 1 0) b)
 unfolding unpack Option·elim
 unpack-some d b e f = rw (e, f)
 
-pub unpack-none : (d : List ℕ) → whole d ≡ false → unpack d ≡ none
+pub unpack-none : (d : List ℕ) → isMessage d ≡ false → unpack d ≡ none
 unfolding unpack
 unpack-none d e = rw e

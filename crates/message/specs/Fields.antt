@@ -40,20 +40,20 @@ place numDwords = bits 7 0
 -- 'HXG dword 0: origin bit 31 (0 host, 1 GuC); type 30:28; the rest by type'
 place origin = bits 31 31
 place type = bits 30 28
--- 'request: data 27:16, action 15:0'
+-- request: 'data 27:16, action 15:0'
 place requestData = bits 27 16
 place requestAction = bits 15 0
--- 'event: data 27:16, action 15:0'
+-- event: 'data 27:16, action 15:0'
 place eventData = bits 27 16
 place eventAction = bits 15 0
--- 'busy: counter 27:0'
+-- busy: 'counter 27:0'
 place busyCounter = bits 27 0
--- 'retry: reason 27:0'
+-- retry: 'reason 27:0'
 place retryReason = bits 27 0
--- 'failure: hint 27:16, error 15:0'
+-- failure: 'hint 27:16, error 15:0'
 place failureHint = bits 27 16
 place failureError = bits 15 0
--- 'success: data 27:0'
+-- success: 'data 27:0'
 place successData = bits 27 0
 
 -- what 1 in a field counts in the dword
@@ -61,12 +61,12 @@ abbrev pub weight : Field → ℕ
 weight f = 2 ^ (place f .low)
 
 -- the numbers below it fit the field
-abbrev pub range : Field → ℕ
-range f = 2 ^ (place f .high + 1 - place f .low)
+abbrev pub limit : Field → ℕ
+limit f = 2 ^ (place f .high + 1 - place f .low)
 
 -- the number that a dword holds in a field
-abbrev pub get : Field → ℕ → ℕ
-get f dword = dword / weight f % range f
+abbrev pub fieldOf : Field → ℕ → ℕ
+fieldOf f w = w / weight f % limit f
 
 -- a field and the number that it is to hold
 abbrev pub Entry : Type 0
@@ -75,7 +75,7 @@ Entry = Field × ℕ
 -- each number fits its field
 unfoldable pub fit : List Entry → Bool
 fit [] = true
-fit (e ∷ es) = ltb (e .1) (range (e .0)) && fit es
+fit (e ∷ es) = ltb (e .1) (limit (e .0)) && fit es
 
 -- the dword made of the fields: each number at its place
 unfoldable pub dword : List Entry → ℕ
@@ -85,4 +85,4 @@ dword (e ∷ es) = e .1 * weight (e .0) + dword es
 -- a dword holds each of the numbers in its field
 unfoldable pub holds : List Entry → ℕ → Bool
 holds [] w = true
-holds (e ∷ es) w = eqb (get (e .0) w) (e .1) && holds es w
+holds (e ∷ es) w = eqb (fieldOf (e .0) w) (e .1) && holds es w

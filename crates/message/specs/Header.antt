@@ -4,22 +4,22 @@ use mathlib.Core.Bool.{Bool, _&&_}
 use mathlib.Core.List.{List}
 use lib.ListN.{length, getD}
 use lib.Dec.{eqb, leb}
-use Rattle.message.specs.Fields.{Field, format, reserved, numDwords, get}
+use Rattle.message.specs.Fields.{Field, format, reserved, numDwords, fieldOf}
 use Rattle.message.specs.Types.{known}
 
 -- 'Total length L = 1 + NUM_DWORDS.'
 abbrev pub totalLength : ℕ → ℕ
-totalLength header = 1 + get numDwords header
+totalLength header = 1 + fieldOf numDwords header
 
 -- 'Well formed: format 0, reserved 0, NUM_DWORDS 1 to 255, and a known HXG type in the second dword.'
 unfoldable pub wellFormed : ℕ → ℕ → Bool
 wellFormed header word =
-    eqb (get format header) 0
-    && eqb (get reserved header) 0
-    && leb 1 (get numDwords header)
-    && leb (get numDwords header) 255
+    eqb (fieldOf format header) 0
+    && eqb (fieldOf reserved header) 0
+    && leb 1 (fieldOf numDwords header)
+    && leb (fieldOf numDwords header) 255
     && known word
 
--- 'A caller's message must also have exactly L dwords.'
-unfoldable pub whole : List ℕ → Bool
-whole dwords = eqb (length dwords) (totalLength (getD dwords 0 0)) && wellFormed (getD dwords 0 0) (getD dwords 1 0)
+-- a caller's message is well formed, and 'must also have exactly L dwords'
+unfoldable pub isMessage : List ℕ → Bool
+isMessage dwords = eqb (length dwords) (totalLength (getD dwords 0 0)) && wellFormed (getD dwords 0 0) (getD dwords 1 0)

@@ -1,19 +1,19 @@
 -- Packing and unpacking (document 01, 'Messages'), and what each answers by the paper's numbers.
 use Prim.Native.Nat.{ℕ}
-use mathlib.Core.Bool.{Bool, _&&_}
+use mathlib.Core.Bool.{Bool, _&&_, cond}
 use mathlib.Core.List.{List, [], _∷_}
 use mathlib.Core.Option.{Option, none, some, Option·elim}
 use lib.ListN.{getD}
 use lib.Dec.{eqb, leb}
-use Rattle.message.specs.Fields.{Field, fence, format, reserved, numDwords, origin, get, Entry, fit, dword}
-use Rattle.message.specs.Types.{pick, bodyFields, bodyOf}
-use Rattle.message.specs.Header.{whole}
+use Rattle.message.specs.Fields.{Field, fence, format, reserved, numDwords, origin, fieldOf, Entry, fit, dword}
+use Rattle.message.specs.Types.{bodyFields, bodyOf}
+use Rattle.message.specs.Header.{isMessage}
 use Rattle.message.specs.declared.Origin.{Origin}
 use Rattle.message.specs.declared.Origin.the-variants.{Host, Guc}
 use Rattle.message.specs.declared.Body.{Body}
 use Rattle.message.specs.declared.Message.{Message}
 use Rattle.message.specs.declared.Unpacked.{Unpacked}
-use Rattle.message.specs.declared.Unpacked.the-variants.{Malformed, Whole}
+use Rattle.message.specs.declared.Unpacked.the-variants.{Malformed, Decoded}
 use Rattle.message.specs.declared.Packed.{Packed}
 use Rattle.message.specs.declared.Packed.the-variants.{Unfit, Dwords}
 
@@ -23,16 +23,16 @@ originNumber Host = 0
 originNumber Guc = 1
 
 unfoldable pub originOf : ℕ → Origin
-originOf bit = pick (eqb bit 0) Host Guc
+originOf bit = cond (eqb bit 0) Host Guc
 
 -- 'Unpacked, a decoded message holds its origin, its fence and one of six bodies, beside its NUM_DWORDS'
 unfoldable pub decoded : ℕ → ℕ → Body → Message
-decoded header word b = record { origin = originOf (get origin word); fence = get fence header; «num_dwords» = get numDwords header; body = b }
+decoded header word b = record { origin = originOf (fieldOf origin word); fence = fieldOf fence header; «num_dwords» = fieldOf numDwords header; body = b }
 
--- 'Unpacking takes a whole message and refuses a malformed one': the message, or none
+-- 'Unpacking takes a whole message and refuses a malformed one': the decoded message, or none
 unfoldable pub unpack : List ℕ → Option Message
 unpack dwords =
-    pick (whole dwords)
+    cond (isMessage dwords)
     (Option·elim (bodyOf (getD dwords 1 0)) none (λ b. some (decoded (getD dwords 0 0) (getD dwords 1 0) b)))
     none
 
@@ -46,7 +46,7 @@ hxgFields m = (origin, originNumber (m .origin)) ∷ bodyFields (m .body)
 -- 'Packing gives the first two dwords and refuses any field too wide for its place and NUM_DWORDS 0.'
 unfoldable pub pack : Message → Option (ℕ × ℕ)
 pack m =
-    pick (leb 1 (m .«num_dwords») && fit (headerFields m) && fit (hxgFields m))
+    cond (leb 1 (m .«num_dwords») && fit (headerFields m) && fit (hxgFields m))
     (some (dword (headerFields m), dword (hxgFields m)))
     none
 
@@ -59,12 +59,19 @@ unfoldable pub refusing : {A : Type 0} → ℕ → Option A → Answer A
 refusing n none = record { number = n; value = none }
 refusing n (some a) = record { number = 0; value = some a }
 
--- the paper's number and values for each case of the answers in code: 'a refused unpacking no message',
--- 'a refused packing answers no dword'
-unfoldable pub unpackedAnswer : Unpacked → Answer Message
-unpackedAnswer Malformed = record { number = 4; value = none }
-unpackedAnswer (Whole m) = record { number = 0; value = some m }
+-- 'refuses a malformed one by 4'
+abbrev pub unpackAnswer : List ℕ → Answer Message
+unpackAnswer dwords = refusing 4 (unpack dwords)
 
-unfoldable pub packedAnswer : Packed → Answer (ℕ × ℕ)
-packedAnswer Unfit = record { number = 14; value = none }
-packedAnswer (Dwords header word) = record { number = 0; value = some (header, word) }
+-- 14 'field too wide, NUM_DWORDS 0'
+abbrev pub packAnswer : Message → Answer (ℕ × ℕ)
+packAnswer m = refusing 14 (pack m)
+
+-- the paper's number and values for each case of the answers in code: 'A refused packing answers no dword, a refused unpacking no message'
+unfoldable pub ofUnpacked : Unpacked → Answer Message
+ofUnpacked Malformed = record { number = 4; value = none }
+ofUnpacked (Decoded m) = record { number = 0; value = some m }
+
+unfoldable pub ofPacked : Packed → Answer (ℕ × ℕ)
+ofPacked Unfit = record { number = 14; value = none }
+ofPacked (Dwords header word) = record { number = 0; value = some (header, word) }

@@ -1,12 +1,14 @@
 // The length of a message and what is well formed: the one place where a type is taken as known.
 ghost use mathlib.Core.Path.{_≡_};
+ghost use mathlib.Core.Bool.{_&&_};
+ghost use lib.Dec.{eqb};
 ghost use lib.ListN.{getD};
-ghost use Rattle.message.specs.Fields.{get, numDwords, type};
+ghost use Rattle.message.specs.Fields.{fieldOf, numDwords, type};
 ghost use Rattle.message.specs.Types.{known};
-ghost use Rattle.message.specs.Header.{totalLength, wellFormed, whole};
+ghost use Rattle.message.specs.Header.{totalLength, wellFormed, isMessage};
 
 // The dword at i, or 0 where there is none.
-pub fn word(s: &[u32], i: usize) -> u32
+pub fn dword_at(s: &[u32], i: usize) -> u32
     ensures { λ r. ⌜ r ≡ getD (now (s .entry)) i 0 ⌝ }
 {
     if i < s.len() { s[i] } else { 0 }
@@ -14,13 +16,13 @@ pub fn word(s: &[u32], i: usize) -> u32
 
 // NUM_DWORDS of a header: how many dwords follow it.
 pub fn num_dwords(header: u32) -> u32
-    ensures { λ r. ⌜ r ≡ get numDwords header ⌝ }
+    ensures { λ r. ⌜ r ≡ fieldOf numDwords header ⌝ }
 {
     header % 0x100
 }
 
 // The length L of the message that a header starts: all its dwords, the header among them.
-pub fn length(header: u32) -> usize
+pub fn total_length(header: u32) -> usize
     ensures { λ r. ⌜ r ≡ totalLength header ⌝ }
 {
     1 + num_dwords(header) as usize
@@ -28,7 +30,7 @@ pub fn length(header: u32) -> usize
 
 // The type in an HXG dword 0.
 pub fn hxg_type(word: u32) -> u32
-    ensures { λ r. ⌜ r ≡ get type word ⌝ }
+    ensures { λ r. ⌜ r ≡ fieldOf type word ⌝ }
 {
     word / 0x1000_0000 % 8
 }
@@ -51,10 +53,16 @@ pub fn well_formed(header: u32, word: u32) -> bool
     (format == 0) & (reserved == 0) & (1 <= n) & (n <= 255) & known_type(word)
 }
 
-// Whether the dwords are one whole well-formed message, exactly L of them.
-pub fn is_whole(dwords: &[u32]) -> bool
-    ensures { λ r. ⌜ r ≡ whole (now (dwords .entry)) ⌝ }
+// Whether that many dwords, of which these are the first two, are one well-formed message.
+pub fn starts_message(len: usize, header: u32, word: u32) -> bool
+    ensures { λ r. ⌜ r ≡ (eqb len (totalLength header) && wellFormed header word) ⌝ }
 {
-    let header = word(dwords, 0);
-    (dwords.len() == length(header)) & well_formed(header, word(dwords, 1))
+    (len == total_length(header)) & well_formed(header, word)
+}
+
+// Whether the dwords are one well-formed message, exactly L of them.
+pub fn is_message(dwords: &[u32]) -> bool
+    ensures { λ r. ⌜ r ≡ isMessage (now (dwords .entry)) ⌝ }
+{
+    starts_message(dwords.len(), dword_at(dwords, 0), dword_at(dwords, 1))
 }

@@ -3,8 +3,10 @@ mod header;
 mod packing;
 mod unpacking;
 
-pub use header::is_whole;
-pub use header::length;
+pub use header::dword_at;
+pub use header::is_message;
+pub use header::starts_message;
+pub use header::total_length;
 pub use header::well_formed;
 pub use packing::pack;
 pub use unpacking::unpack;
@@ -34,10 +36,10 @@ pub struct Message {
     pub body: Body,
 }
 
-// What unpacking answers: refused by 4, or the message.
+// What unpacking answers: refused by 4, or the decoded message.
 pub enum Unpacked {
     Malformed,
-    Whole(Message),
+    Decoded(Message),
 }
 
 // What packing answers: refused by 14, or the header and the HXG dword 0.

@@ -1,11 +1,11 @@
 // Packing: a decoded message as its header and its HXG dword 0.
 ghost use mathlib.Core.Path.{_≡_};
-ghost use mathlib.Core.Bool.{_&&_};
+ghost use mathlib.Core.Bool.{_&&_, cond};
 ghost use Prim.Native.Nat.{_+_, _*_, _<_};
 ghost use lib.Dec.{ltb};
 ghost use Rattle.message.specs.Fields.{fit, dword};
-ghost use Rattle.message.specs.Types.{pick, bodyFields};
-ghost use Rattle.message.specs.Words.{pack as packOf, refusing, packedAnswer, originNumber};
+ghost use Rattle.message.specs.Types.{bodyFields};
+ghost use Rattle.message.specs.Words.{originNumber, packAnswer, ofPacked};
 use crate::Body;
 use crate::Message;
 use crate::Origin;
@@ -20,7 +20,7 @@ enum Placed {
 // A type with one field in bits 27:0.
 fn one_field(t: u32, all: u32) -> Placed
     requires { ⌜ t < 8 ⌝ }
-    ensures { λ r. ⌜ r ≡ pick (ltb all 0x1000_0000) (Placed.Bits (t * 0x1000_0000 + all)) Placed.TooWide ⌝ }
+    ensures { λ r. ⌜ r ≡ cond (ltb all 0x1000_0000) (Placed.Bits (t * 0x1000_0000 + all)) Placed.TooWide ⌝ }
 {
     if all < 0x1000_0000 {
         Placed::Bits(t * 0x1000_0000 + all)
@@ -32,7 +32,7 @@ fn one_field(t: u32, all: u32) -> Placed
 // A type with a field in bits 27:16 and one in bits 15:0.
 fn two_fields(t: u32, upper: u32, lower: u32) -> Placed
     requires { ⌜ t < 8 ⌝ }
-    ensures { λ r. ⌜ r ≡ pick (ltb upper 0x1000 && ltb lower 0x1_0000) (Placed.Bits (t * 0x1000_0000 + upper * 0x1_0000 + lower)) Placed.TooWide ⌝ }
+    ensures { λ r. ⌜ r ≡ cond (ltb upper 0x1000 && ltb lower 0x1_0000) (Placed.Bits (t * 0x1000_0000 + upper * 0x1_0000 + lower)) Placed.TooWide ⌝ }
 {
     if upper < 0x1000 {
         if lower < 0x1_0000 {
@@ -47,7 +47,7 @@ fn two_fields(t: u32, upper: u32, lower: u32) -> Placed
 
 // The type and the fields of a body.
 fn body_bits(b: Body) -> Placed
-    ensures { λ r. ⌜ r ≡ pick (fit (bodyFields b)) (Placed.Bits (dword (bodyFields b))) Placed.TooWide ⌝ }
+    ensures { λ r. ⌜ r ≡ cond (fit (bodyFields b)) (Placed.Bits (dword (bodyFields b))) Placed.TooWide ⌝ }
 {
     match b {
         Body::Request { data, action } => two_fields(0, data, action),
@@ -71,7 +71,7 @@ fn origin_bit(o: Origin) -> u32
 
 // Packs a message; a field too wide for its place and NUM_DWORDS 0 are refused.
 pub fn pack(m: Message) -> Packed
-    ensures { λ r. ⌜ packedAnswer r ≡ refusing 14 (packOf m) ⌝ }
+    ensures { λ r. ⌜ ofPacked r ≡ packAnswer m ⌝ }
 {
     let fence = m.fence;
     let n = m.num_dwords;

@@ -1,22 +1,22 @@
-// Unpacking: a whole message's first two dwords as a decoded message.
+// Unpacking: the first two dwords of a message as a decoded message.
 ghost use mathlib.Core.Path.{_≡_};
 ghost use mathlib.Core.Bool.{true};
 ghost use mathlib.Core.Option.{some};
+ghost use Rattle.message.specs.Fields.{fieldOf, origin};
 ghost use Rattle.message.specs.Types.{known, bodyOf};
-ghost use Rattle.message.specs.Fields.{get, origin};
-ghost use Rattle.message.specs.Words.{unpack as unpackOf, refusing, unpackedAnswer, originOf};
+ghost use Rattle.message.specs.Words.{originOf, unpackAnswer, ofUnpacked};
 use crate::Body;
 use crate::Message;
 use crate::Origin;
 use crate::Unpacked;
+use crate::header::dword_at;
 use crate::header::hxg_type;
-use crate::header::is_whole;
 use crate::header::num_dwords;
-use crate::header::word;
+use crate::header::starts_message;
 
 // Who sent the message that has this HXG dword 0.
-fn origin(word: u32) -> Origin
-    ensures { λ r. ⌜ r ≡ originOf (get origin word) ⌝ }
+fn origin_of(word: u32) -> Origin
+    ensures { λ r. ⌜ r ≡ originOf (fieldOf origin word) ⌝ }
 {
     if word / 0x8000_0000 % 2 == 0 {
         Origin::Host
@@ -53,19 +53,19 @@ fn body(word: u32) -> Body
     }
 }
 
-// Unpacks a whole message; a malformed one is refused.
+// Unpacks a message; a malformed one is refused. Each dword is read once, so that what is decoded is what was judged.
 pub fn unpack(dwords: &[u32]) -> Unpacked
-    ensures { λ r. ⌜ unpackedAnswer r ≡ refusing 4 (unpackOf (now (dwords .entry))) ⌝ }
+    ensures { λ r. ⌜ ofUnpacked r ≡ unpackAnswer (now (dwords .entry)) ⌝ }
 {
-    if !is_whole(dwords) {
+    let header = dword_at(dwords, 0);
+    let word = dword_at(dwords, 1);
+    if !starts_message(dwords.len(), header, word) {
         return Unpacked::Malformed;
     }
-    let header = word(dwords, 0);
-    let hxg = word(dwords, 1);
-    Unpacked::Whole(Message {
-        origin: origin(hxg),
+    Unpacked::Decoded(Message {
+        origin: origin_of(word),
         fence: header / 0x1_0000 % 0x1_0000,
         num_dwords: num_dwords(header),
-        body: body(hxg),
+        body: body(word),
     })
 }

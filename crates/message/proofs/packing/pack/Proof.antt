@@ -2,14 +2,14 @@
 -- Assumes nothing.
 use Prim.Native.Nat.{ℕ, _<_, _^_}
 use mathlib.Core.Path.{_≡_, refl, sym, _∙_, subst}
-use mathlib.Core.Bool.{Bool, true, false, _&&_}
+use mathlib.Core.Bool.{Bool, true, false, _&&_, cond}
 use native.Mathlib.Omega.{arith}
 use lib.Dec.{ltb, leb}
 use borrow.Author.Needs.{needs}
 use borrow.Author.Tests.{ltb-true}
 use Rattle.message.specs.Fields.{fit, dword}
-use Rattle.message.specs.Types.{pick, bodyFields}
-use Rattle.message.specs.Words.{refusing, packedAnswer, originNumber}
+use Rattle.message.specs.Types.{bodyFields}
+use Rattle.message.specs.Words.{refusing, ofPacked, originNumber}
 use Rattle.message.specs.declared.packing.Placed.{Placed}
 use Rattle.message.specs.declared.packing.Placed.the-variants.{TooWide, Bits}
 use Rattle.message.proofs.Tests.{and-l, and-r, and-false}
@@ -19,15 +19,15 @@ use Rattle.message.proofs.packing.pack.Statement.{statement}
 use Rattle.message.proofs.packing.pack.Tie as tie
 
 -- what the body's answer says: its fields fit, and their dword; or one is too wide
-placed-fit : (t : Bool) (n x : ℕ) → pick t (Bits n) TooWide ≡ Bits x → t ≡ true
+placed-fit : (t : Bool) (n x : ℕ) → cond t (Bits n) TooWide ≡ Bits x → t ≡ true
 placed-fit true n x e = refl
 placed-fit false n x e = cc
 
-placed-bits : (t : Bool) (n x : ℕ) → pick t (Bits n) TooWide ≡ Bits x → n ≡ x
+placed-bits : (t : Bool) (n x : ℕ) → cond t (Bits n) TooWide ≡ Bits x → n ≡ x
 placed-bits true n x e = cc
 placed-bits false n x e = cc
 
-placed-wide : (t : Bool) (n : ℕ) → pick t (Bits n) TooWide ≡ TooWide → t ≡ false
+placed-wide : (t : Bool) (n : ℕ) → cond t (Bits n) TooWide ≡ TooWide → t ≡ false
 placed-wide true n e = cc
 placed-wide false n e = refl
 
@@ -40,7 +40,7 @@ module _ (n f : ℕ) (t : ((leb 1 n && ltb n 256) && ltb f 65536) ≡ true) wher
   header-fence = ltb-true f 65536 (and-r (leb 1 n && ltb n 256) (ltb f 65536) t)
 
 returns : tie.Need-returns
-unfolding refusing packedAnswer
+unfolding refusing ofPacked
 returns c =
     let b = bodyFields (c .before .before .before .args .m .body) in
     let w = placed-wide (fit b) (dword b) (sym (c .before .before .body-bits .ensures) ∙ c .enum-told .given .1) in
@@ -64,14 +64,14 @@ add-t16 c =
     omega (arith, placed-bits (fit b) (dword b) _ e, ltb-true (originNumber o) 2 (origin-fits o))
 
 returns-2 : tie.Need-returns-2
-unfolding refusing packedAnswer
+unfolding refusing ofPacked
 returns-2 c =
     let b = bodyFields (c .before .before .before .before .before .before .args .m .body) in
     let e = sym (c .before .before .before .before .before .body-bits .ensures) ∙ c .before .before .before .bits .given .1 in
     simp (pack-is, c .before .if1 .taken, placed-fit (fit b) (dword b) _ e, placed-bits (fit b) (dword b) _ e, c .origin-bit .ensures)
 
 returns-3 : tie.Need-returns-3
-unfolding refusing packedAnswer
+unfolding refusing ofPacked
 returns-3 c = simp (pack-is, c .if1 .left)
 
 pub pack-spec : {M : Type 1} → statement M
