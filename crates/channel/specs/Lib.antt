@@ -4,4 +4,5 @@ pub mod Numbers
 pub mod Outcome
 pub mod Send
 pub mod Receive
+pub mod AtOnce
 pub mod Opening

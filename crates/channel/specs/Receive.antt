@@ -10,11 +10,13 @@ use Rattle.channel.specs.State.{State, idleAt, idle, activeReceive, head
 use Rattle.channel.specs.Numbers.{need, entry, receiveFound, marked}
 use Rattle.channel.specs.Outcome.{Outcome, refused}
 
--- 'look (read STATUS, HEAD, TAIL and, if not empty, the header, ..)': 1 to 3, then what the descriptor and the header say
+-- 'look (read STATUS, HEAD, TAIL and, if not empty, the header, ..)': what the descriptor and a header at an own head say
+abbrev pub foundWith : ℕ → List ℕ → ℕ → ℕ → ℕ
+foundWith own d n h = receiveFound n own (status d) (head d) (tail d) h
+
 unfoldable pub lookNumber : State → List ℕ → List ℕ → ℕ
 lookNumber s d b =
-    entry (length d) (length b) (idle (length b) s)
-    (receiveFound (length b) (s .own) (status d) (head d) (tail d) (getD b (s .own) 0))
+    entry (length d) (length b) (idle (length b) s) (foundWith (s .own) d (length b) (getD b (s .own) 0))
 
 -- 'the header, which counts as the first dword copied'
 abbrev pub loaded : State → ℕ → State
@@ -50,10 +52,14 @@ move s d b = moveBy (moveNumber s d b) s d b
 
 -- 'publish HEAD = (own head + L) mod N': 5 'output shorter than 256', 12 'publish before L dwords moved', 13 'received message whole but
 -- malformed'. 'The copied message is judged at publish and the ring isn't read again for it.'
-unfoldable pub publishNumber : State → List ℕ → List ℕ → List ℕ → ℕ
-publishNumber s o d b =
-    entry (length d) (length b) (activeReceive (length b) s)
-    (need (leb 256 (length o)) 5 (need (leb (s .len) (s .moved)) 12 (need (wellFormed (header s) (second s)) 13 0)))
+-- with the lengths of the output, the descriptor and the buffer
+unfoldable pub publishNumberOf : State → ℕ → ℕ → ℕ → ℕ
+publishNumberOf s output descriptor n =
+    entry descriptor n (activeReceive n s)
+    (need (leb 256 output) 5 (need (leb (s .len) (s .moved)) 12 (need (wellFormed (header s) (second s)) 13 0)))
+
+abbrev pub publishNumber : State → List ℕ → List ℕ → List ℕ → ℕ
+publishNumber s o d b = publishNumberOf s (length o) (length d) (length b)
 
 -- the offset past the message
 abbrev pub past : State → List ℕ → ℕ

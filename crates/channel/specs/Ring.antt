@@ -1,8 +1,8 @@
 -- The buffer and its descriptor (document 01, 'The channel').
-use Prim.Native.Nat.{ℕ, _+_, _-_, _%_}
+use Prim.Native.Nat.{ℕ, zero, suc, _+_, _-_, _%_}
 use mathlib.Core.Bool.{Bool, _&&_}
-use mathlib.Core.List.{List}
-use lib.ListN.{getD}
+use mathlib.Core.List.{List, [], _∷_}
+use lib.ListN.{getD, set}
 use lib.Dec.{eqb, leb}
 
 -- 'The buffer is N dwords, N a multiple of 1,024 from 1,024 to 16,384'
@@ -48,3 +48,13 @@ underflow = 2
 
 abbrev pub mismatch : ℕ
 mismatch = 4
+
+-- k dwords of a buffer of n from place i on, around its end
+unfoldable pub window : List ℕ → ℕ → ℕ → ℕ → List ℕ
+window b n i zero = []
+window b n i (suc k) = getD b (i % n) 0 ∷ window b n (suc i) k
+
+-- a buffer of n with dwords stored one after another from place i on, around its end
+unfoldable pub stored : List ℕ → ℕ → ℕ → List ℕ → List ℕ
+stored b n i [] = b
+stored b n i (x ∷ xs) = stored (set b (i % n) x) n (suc i) xs

@@ -11,11 +11,13 @@ use Rattle.channel.specs.State.{State, idleAt, idle, activeSend}
 use Rattle.channel.specs.Numbers.{need, entry, sendFound, marked}
 use Rattle.channel.specs.Outcome.{Outcome, refused}
 
--- 'look (judge the message, read STATUS, HEAD, TAIL)': 1 to 4, then what the descriptor says
-unfoldable pub lookNumber : State → List ℕ → List ℕ → List ℕ → ℕ
-lookNumber s m d b =
-    entry (length d) (length b) (idle (length b) s)
-    (need (isMessage m) 4 (sendFound (length b) (s .own) (length m) (status d) (head d) (tail d)))
+-- 'look (judge the message, read STATUS, HEAD, TAIL)': 1 to 4, then what the descriptor says, for a state that fits or not and an own tail
+unfoldable pub numberAt : Bool → ℕ → List ℕ → List ℕ → ℕ → ℕ
+numberAt fits own m d n =
+    entry (length d) n fits (need (isMessage m) 4 (sendFound n own (length m) (status d) (head d) (tail d)))
+
+abbrev pub lookNumber : State → List ℕ → List ℕ → List ℕ → ℕ
+lookNumber s m d b = numberAt (idle (length b) s) (s .own) m d (length b)
 
 -- active with the message: 'a look leaves zeros in the copy's other places'
 abbrev pub loaded : State → List ℕ → State

@@ -17,6 +17,9 @@ pub record State : Type 0 where
   pub moved : ℕ
   pub copy : List ℕ
 
+abbrev pub state : ℕ → ℕ → ℕ → ℕ → List ℕ → State
+state n own len moved copy = record { n = n; own = own; len = len; moved = moved; copy = copy }
+
 -- the state in each struct: the same five fields
 unfoldable pub ofSender : Sender → State
 ofSender s = record { n = s .n; own = s .own; len = s .len; moved = s .moved; copy = s .copy }

@@ -1,9 +1,15 @@
 // One command transport buffer (CTB) in one direction: its opening, its sender and its receiver.
+mod memory;
 mod numbers;
 mod opening;
+mod receiving;
+mod sending;
 mod state;
 
 pub use opening::open_channel;
+pub use receiving::whole_receive;
+pub use sending::whole_send;
+pub use state::Ended;
 pub use state::Looked;
 pub use state::Opened;
 pub use state::Received;

@@ -1,7 +1,8 @@
 // The decisions that the calls share, as functions of plain numbers.
 ghost use mathlib.Core.Path.{_≡_};
-ghost use Rattle.channel.specs.Ring.{allowed};
-ghost use Rattle.channel.specs.Numbers.{need};
+ghost use Prim.Native.Nat.{_+_, _%_, _≤_, _<_};
+ghost use Rattle.channel.specs.Ring.{allowed, used};
+ghost use Rattle.channel.specs.Numbers.{need, entry, sendFound, receiveFound};
 
 // The refusal's number where the test fails, else the rest's.
 pub fn refuse(test: bool, number: u32, rest: u32) -> u32
@@ -15,4 +16,91 @@ pub fn allowed(n: usize) -> bool
     ensures { λ r. ⌜ r ≡ allowed n ⌝ }
 {
     (n % 1024 == 0) & (1024 <= n) & (n <= 16384)
+}
+
+// 1, 2 and 3, which every step judges first, with the lengths of the descriptor and the buffer.
+pub fn entry(descriptor: usize, n: usize, fits: bool, rest: u32) -> u32
+    ensures { λ r. ⌜ r ≡ entry descriptor n fits rest ⌝ }
+{
+    refuse(
+        descriptor == 16,
+        1,
+        refuse(allowed(n), 2, refuse(fits, 3, rest)),
+    )
+}
+
+// The dwords in use.
+fn used(n: usize, head: usize, tail: usize) -> usize
+    requires { ⌜ (head < n) × (tail < n) ⌝ }
+    ensures { λ r. ⌜ r ≡ used n head tail ⌝ }
+{
+    if head <= tail {
+        tail - head
+    } else {
+        n - (head - tail)
+    }
+}
+
+// What a send's look finds: 6, 7, 8 or 10.
+pub fn send_found(n: usize, own: usize, len: usize, status: usize, head: usize, tail: usize) -> u32
+    ensures { λ r. ⌜ r ≡ sendFound n own len status head tail ⌝ }
+{
+    if status != 0 {
+        return 6;
+    }
+    if n <= head {
+        return 7;
+    }
+    if n <= tail {
+        return 7;
+    }
+    if own != tail {
+        return 8;
+    }
+    if n - 1 - used(n, head, tail) < len {
+        return 10;
+    }
+    0
+}
+
+// What a receive's look finds: 6, 7, 8, 9 or 11.
+pub fn receive_found(
+    n: usize,
+    own: usize,
+    status: usize,
+    head: usize,
+    tail: usize,
+    header: u32,
+) -> u32
+    ensures { λ r. ⌜ r ≡ receiveFound n own status head tail header ⌝ }
+{
+    if status != 0 {
+        return 6;
+    }
+    if n <= head {
+        return 7;
+    }
+    if n <= tail {
+        return 7;
+    }
+    if own != head {
+        return 8;
+    }
+    let pending = used(n, head, tail);
+    if pending == 0 {
+        return 11;
+    }
+    if pending < message::total_length(header) {
+        return 9;
+    }
+    0
+}
+
+// The offset len dwords past own, around the end of a ring of n.
+pub fn past(own: usize, len: usize, n: usize) -> usize
+    requires { ⌜ (own < n) × (len ≤ n) × (n ≤ 16384) ⌝ }
+    ensures { λ r. ⌜ r ≡ (own + len) % n ⌝ }
+{
+    let sum = own + len;
+    if sum < n { sum } else { sum - n }
 }

@@ -1,6 +1,8 @@
-// The states of the two sides, and what their steps answer.
+// The states of the two sides, when one fits, and what the calls answer.
 ghost use mathlib.Core.Path.{_≡_};
-ghost use Rattle.channel.specs.State.{idleAt, ofSender, ofReceiver};
+ghost use Rattle.channel.specs.State.{state, idleAt, ofSender, ofReceiver, idle, activeSend, activeReceive};
+use crate::memory::all_zero;
+use message::dword_at;
 
 // A sender's state: made for a buffer of n dwords, with its own tail. Mid-call it has a copy of the message, of
 // len dwords, of which moved are stored.
@@ -47,6 +49,61 @@ pub struct Opened {
     pub receiver: Receiver,
 }
 
+// What a whole call on plain numbers answers: the number, L, and the own offset afterwards.
+pub struct Ended {
+    pub code: u32,
+    pub len: usize,
+    pub own: usize,
+}
+
+// Whether a state of these fields is idle and fits a buffer of n dwords.
+pub fn fits_idle(n: usize, made: usize, own: usize, len: usize, moved: usize, copy: &[u32]) -> bool
+    ensures { λ r. ⌜ r ≡ idle n (state made own len moved (now (copy .entry))) ⌝ }
+{
+    (made == n) & (own < n) & (len == 0) & (moved == 0) & all_zero(copy)
+}
+
+// Whether a state of these fields is an active sender's and fits.
+pub fn fits_sending(
+    n: usize,
+    made: usize,
+    own: usize,
+    len: usize,
+    moved: usize,
+    copy: &[u32],
+) -> bool
+    ensures { λ r. ⌜ r ≡ activeSend n (state made own len moved (now (copy .entry))) ⌝ }
+{
+    let header = dword_at(copy, 0);
+    (made == n)
+        & (own < n)
+        & (2 <= len)
+        & (len <= 256)
+        & (moved <= len)
+        & (len == message::total_length(header))
+        & message::well_formed(header, dword_at(copy, 1))
+}
+
+// Whether a state of these fields is an active receiver's and fits.
+pub fn fits_receiving(
+    n: usize,
+    made: usize,
+    own: usize,
+    len: usize,
+    moved: usize,
+    copy: &[u32],
+) -> bool
+    ensures { λ r. ⌜ r ≡ activeReceive n (state made own len moved (now (copy .entry))) ⌝ }
+{
+    (made == n)
+        & (own < n)
+        & (1 <= len)
+        & (len <= 256)
+        & (1 <= moved)
+        & (moved <= len)
+        & (len == message::total_length(dword_at(copy, 0)))
+}
+
 impl Sender {
     // The idle state made for n dwords, at an own offset.
     pub fn idle_at(n: usize, own: usize) -> Self
@@ -63,6 +120,7 @@ impl Sender {
 }
 
 impl Receiver {
+    // The idle state made for n dwords, at an own offset.
     pub fn idle_at(n: usize, own: usize) -> Self
         ensures { λ r. ⌜ ofReceiver r ≡ idleAt n own ⌝ }
     {
