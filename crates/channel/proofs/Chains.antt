@@ -1,17 +1,32 @@
 -- What the answer of a chain of tests says: the tests before it hold. And what a state that fits has. Assumes nothing.
-use Prim.Native.Nat.{ℕ, _≤_, _<_}
+use Prim.Native.Nat.{ℕ, _+_, _%_, _≤_, _<_}
 use mathlib.Core.Path.{_≡_, refl, sym, _∙_}
-use mathlib.Core.Bool.{Bool, true, false, _&&_}
+use mathlib.Core.Bool.{Bool, true, false}
 use native.Mathlib.Omega.{arith}
-use lib.ListN.{getD}
-use lib.Dec.{eqb, leb, ltb}
+use native.Mathlib.Nat.{mod-lt}
+use lib.Dec.{eqb}
 use borrow.Author.Tests.{eqb-true, eq-eqb, leb-true, ltb-true}
-use Rattle.message.specs.Header.{totalLength, wellFormed}
+use Rattle.message.specs.Header.{totalLength}
 use Rattle.message.proofs.Tests.{and-l, and-r}
-use Rattle.channel.specs.Ring.{allowed}
-use Rattle.channel.specs.State.{State, header, second, idle, activeSend, activeReceive}
-use Rattle.channel.specs.Numbers.{need, entry}
+use Rattle.channel.specs.Numbers.{entry, need}
 use Rattle.channel.specs.Opening.{openNumber}
+use Rattle.channel.specs.Ring.{allowed}
+use Rattle.channel.specs.State.{State, activeReceive, activeSend, header}
+
+-- a chain of one test that holds
+pub tested : (t : Bool) (c : ℕ) → t ≡ true → need t c 0 ≡ 0
+unfolding need
+tested t c e = rw e
+
+-- a test of a chain that holds
+pub ok : {t : Bool} {r : ℕ} (c : ℕ) → t ≡ true → need t c r ≡ r
+unfolding need
+ok c e = rw e
+
+-- by cases on a test
+pub cases : {X : Type 0} (t : Bool) → (t ≡ true → X) → (t ≡ false → X) → X
+cases true f g = f refl
+cases false f g = g refl
 
 -- true and false differ
 true-false : {X : Type 0} → _≡_ {A = Bool} true false → X
@@ -31,6 +46,7 @@ passed-rest false k r x n e = true-false (sym (eq-eqb k x e) ∙ n)
 -- what a step has whose answer x is none of 1, 2 and 3
 pub record Entered (d n : ℕ) : Type 0 where
   pub sixteen : d ≡ 16
+  pub is-allowed : allowed n ≡ true
   pub low : 1024 ≤ n
   pub high : n ≤ 16384
 
@@ -56,6 +72,7 @@ module _ (d n : ℕ) (fits : Bool) (r x : ℕ) (n₁ : eqb 1 x ≡ false) (n₂ 
       let a = passed (allowed n) 2 (need fits 3 r) x n₂ after-1 in
       record {
         sixteen = eqb-true d 16 (passed (eqb d 16) 1 (need (allowed n) 2 (need fits 3 r)) x n₁ e);
+        is-allowed = a;
         low = allowed-low n a;
         high = allowed-high n a;
       }
@@ -104,3 +121,21 @@ receive-active n s e =
 pub open-sixteen : (d n : ℕ) → openNumber d n ≡ 0 → d ≡ 16
 unfolding openNumber
 open-sixteen d n e = eqb-true d 16 (passed (eqb d 16) 1 (need (allowed n) 2 0) 0 refl e)
+
+-- what a step that goes on has, of either side: it enters, its state fits, and its own test holds
+pub record GoesOn (d n : ℕ) (fits test : Bool) : Type 0 where
+  pub enters : Entered d n
+  pub is-fit : fits ≡ true
+  pub is-test : test ≡ true
+
+pub goes-on : (d n : ℕ) (fits test : Bool) → entry d n fits (need test 12 0) ≡ 0 → GoesOn d n fits test
+goes-on d n fits test e =
+    record {
+      enters = entered d n fits (need test 12 0) 0 refl refl refl e;
+      is-fit = entered-fits d n fits (need test 12 0) 0 refl refl refl e;
+      is-test = passed test 12 0 0 refl (entered-rest d n fits (need test 12 0) 0 refl refl refl e);
+    }
+
+-- an offset of the ring is below N
+pub past-lt : (own len n r : ℕ) → 1024 ≤ n → r ≡ (own + len) % n → r < n
+past-lt own len n r l e = omega (arith, mod-lt (own + len) {m = n} (omega arith))

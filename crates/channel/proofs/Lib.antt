@@ -1,1 +1,7 @@
 pub mod Chains
+pub mod Ring
+pub mod Fits
+pub mod SendAtOnce
+pub mod ReceiveAtOnce
+pub mod Steps
+pub mod Runs

@@ -46,6 +46,18 @@ fn take_number(fits: bool, own: usize, output: usize, desc: &[u32], n: usize, he
     entry(desc.len(), n, fits, rest)
 }
 
+// The second dword of the message of len dwords that starts at an own head, or 0 where it has none.
+fn second_dword(buf: &[u32], own: usize, len: usize) -> u32
+    requires { ⌜ (own < length (now buf)) × (1 ≤ len) × (2 ≤ length (now buf)) × (length (now buf) ≤ 16384) ⌝ }
+    ensures { λ r. ⌜ r ≡ getD (window (now (buf .entry)) (length (now (buf .entry))) own len) 1 0 ⌝ }
+{
+    if len < 2 {
+        return 0;
+    }
+    let at = past(own, 1, buf.len());
+    buf[at]
+}
+
 // Lays a message of which the first two dwords were read, and the others are read now, at the front of the output.
 fn lay_message(out: &mut [u32], header: u32, second: u32, len: usize, buf: &[u32], own: usize)
     requires { ⌜ (2 ≤ len) × (len ≤ length (now out)) × (len ≤ length (now buf)) × (own < length (now buf)) × (length (now buf) ≤ 16384) ⌝ }
@@ -81,7 +93,7 @@ pub fn whole_receive(
     }
     let len = message::total_length(header);
     let next = past(own, len, n);
-    let second = if 2 <= len { buf[past(own, 1, n)] } else { 0 };
+    let second = second_dword(buf, own, len);
     if message::well_formed(header, second) {
         lay_message(out, header, second, len, buf, own);
         put(desc, 0, next as u32);
@@ -215,7 +227,7 @@ impl Receiver {
         if (end.code != 0) & (end.code != 13) {
             return Received {
                 code: end.code,
-                len: 0,
+                len: end.len,
                 next: self,
             };
         }

@@ -14,13 +14,15 @@ use lib.Dec.{leb, eqb}
 use Rattle.message.specs.Header.{isMessage}
 use Rattle.message.proofs.Formed.{message-long}
 use Rattle.channel.specs.Numbers.{need}
+use Rattle.channel.specs.Ring.{stored}
+use Rattle.channel.proofs.Chains.{cases, ok}
+use Rattle.channel.proofs.Ring.{apart, stored-other, stored-take}
 use Rattle.delivery.specs.Demand.{Call, Result, Unreleased, answers, endedBy, held, publishedBy, receivedBy, result, wholes}
 use Rattle.delivery.specs.Operations.{Op, plainAnswer, plainEnd, plainRun, plainSeen, receiveLook, receiveMove, receivePublish, receiveWhole, sendLook, sendMove, sendPublish, sendWhole}
 use Rattle.delivery.specs.Plain.{Answer, Plain, Receiving, Sending, first, notReceiving, notSending, receiving, sending}
 use Rattle.delivery.specs.Plain
-use Rattle.delivery.proofs.Invariant.{Inv, bad, cases, empty-receiving, n-low, ok, plain}
-use Rattle.delivery.proofs.Ring.{apart, stores, stores-other}
-use Rattle.delivery.proofs.Wholes.{receive-whole-midcall, receive-whole-none, receive-whole-ok, receive-whole-short, refusal, roomNumber, send-whole-midcall, send-whole-ok, send-whole-refused, stores-take}
+use Rattle.delivery.proofs.Invariant.{Inv, bad, empty-receiving, n-low, plain}
+use Rattle.delivery.proofs.Wholes.{receive-whole-midcall, receive-whole-none, receive-whole-ok, receive-whole-short, refusal, roomNumber, send-whole-midcall, send-whole-ok, send-whole-refused}
 
 -- what a send mid-call has stored
 abbrev pub done : Sending → List ℕ
@@ -38,7 +40,7 @@ serialOf p z = plain (p .n) z (p .queue) (p .P) (p .R) notSending notReceiving
 
 -- its buffer: what a send mid-call has stored is all that it lacks
 abbrev pub Lacks : Plain → List ℕ → Type 0
-Lacks p z = p .buf ≡ stores z (p .n) (p .P) (done (p .send))
+Lacks p z = p .buf ≡ stored z (p .n) (p .P) (done (p .send))
 
 pub record RanWhole (p : Plain) (z : List ℕ) (x : Answer) (cs : List Call) : Type 0 where
   pub z′ : List ℕ
@@ -113,11 +115,11 @@ module _ (n : ℕ) (b : List ℕ) (q : List (List ℕ)) (P R : ℕ) where
           holds = λ c h. h;
           keeps =
               λ j w. getD-set-other b ((P + k) % n) j (getD m k 0) 0 (λ e. apart n (w .i) (P + k) (omega arith) (omega (arith, g .count, g .send .fits)) (sym (w .at) ∙ e));
-          ran = λ c _ e i z l. same-run _ z _ refl (ap (λ (y : List ℕ). set y ((P + k) % n) (getD m k 0)) l ∙ stores-take z n P m k h ∙ ap (λ (x : ℕ). stores z n P (take x m)) (sym (add-one k)));
+          ran = λ c _ e i z l. same-run _ z _ refl (ap (λ (y : List ℕ). set y ((P + k) % n) (getD m k 0)) l ∙ stored-take z n P m k h ∙ ap (λ (x : ℕ). stored z n P (take x m)) (sym (add-one k)));
         }
 
     pub-yes : length m ≤ k → StepFacts (plain n b q P R (sending k m) r) sendPublish (record { code = 0; len = 0; out = []; next = plain n b (q ++ (m ∷ [])) (P + length m) R notSending r })
-    unfolding stores roomNumber
+    unfolding stored roomNumber
     pub-yes h =
         let f : leb (length m) (n - 1 - (P - R)) ≡ true = le-leb (length m) (n - 1 - (P - R)) (omega (arith, g .count, g .send .fits)) in
         record {
@@ -125,19 +127,19 @@ module _ (n : ℕ) (b : List ℕ) (q : List (List ℕ)) (P R : ℕ) where
           holds = λ c i. tt;
           keeps = λ j w. refl;
           ran =
-              λ c i e _ z l. one-run _ z (stores z n P m) _ _ (sendWhole c) _ (ap (Plain.sendWhole (plain n z q P R notSending notReceiving)) i ∙ send-whole-ok n z q P R notReceiving m (ok 4 (g .send .is-message) ∙ ok 10 f)) refl refl (l ∙ ap (stores z n P) (take-all k m h));
+              λ c i e _ z l. one-run _ z (stored z n P m) _ _ (sendWhole c) _ (ap (Plain.sendWhole (plain n z q P R notSending notReceiving)) i ∙ send-whole-ok n z q P R notReceiving m (ok 4 (g .send .is-message) ∙ ok 10 f)) refl refl (l ∙ ap (stored z n P) (take-all k m h));
         }
 
   module _ (m : List ℕ) (r : Receiving) (g : Inv (plain n b q P R notSending r)) where
-    whole-yes : roomNumber n P R m ≡ 0 → length m ≤ n - 1 - (P - R) → StepFacts (plain n b q P R notSending r) (sendWhole m) (record { code = 0; len = 0; out = []; next = plain n (stores b n P m) (q ++ (m ∷ [])) (P + length m) R notSending r })
-    unfolding stores
+    whole-yes : roomNumber n P R m ≡ 0 → length m ≤ n - 1 - (P - R) → StepFacts (plain n b q P R notSending r) (sendWhole m) (record { code = 0; len = 0; out = []; next = plain n (stored b n P m) (q ++ (m ∷ [])) (P + length m) R notSending r })
+    unfolding stored
     whole-yes f h =
         let z₀ : 1024 ≤ n = n-low (plain n b q P R notSending r) g in
         record {
           flow = λ c i. refl;
           holds = λ c i. tt;
-          keeps = λ j w. stores-other b n P m j (λ t lo hi e. apart n (w .i) t (omega arith) (omega (arith, g .count, g .room)) (sym (w .at) ∙ e));
-          ran = λ c i e _ z l. one-run _ z (stores z n P m) _ _ (sendWhole m) _ (send-whole-ok n z q P R notReceiving m f) refl refl (ap (λ (y : List ℕ). stores y n P m) l);
+          keeps = λ j w. stored-other b n P m j (λ t lo hi e. apart n (w .i) t (omega arith) (omega (arith, g .count, g .room)) (sym (w .at) ∙ e));
+          ran = λ c i e _ z l. one-run _ z (stored z n P m) _ _ (sendWhole m) _ (send-whole-ok n z q P R notReceiving m f) refl refl (ap (λ (y : List ℕ). stored y n P m) l);
         }
 
     whole-no : (c : ℕ) → roomNumber n P R m ≡ c → eqb c 0 ≡ false → eqb c 3 ≡ false → StepFacts (plain n b q P R notSending r) (sendWhole m) (refusal c [] (plain n b q P R notSending r))

@@ -1,24 +1,24 @@
 -- The channel's states, descriptor and buffer as a function of the plain channel, and what holds of the plain channel always.
 -- Assumes nothing.
 use mathlib.Core.Path.{_≡_, refl}
-use mathlib.Core.Bool.{Bool, true, false, not, _&&_}
+use mathlib.Core.Bool.{Bool, true, false, not}
 use mathlib.Core.List.{List, [], _∷_, _++_}
 use Prim.Native.Nat.{ℕ, _+_, _-_, _%_, _≤_, _<_}
 use native.Mathlib.Nat.{mod-lt}
 use native.Mathlib.Omega.{arith}
-use borrow.Author.Tests.{leb-true, eqb-true, eqb-false, lt-ltb, le-ltb, le-leb, eq-eqb, ne-eqb}
-use lib.ListN.{length, getD, take, replicate}
+use borrow.Author.Tests.{eqb-true, eqb-false, lt-ltb, le-ltb, eq-eqb}
+use lib.ListN.{length, take, replicate}
 use lib.Dec.{ltb, eqb}
-use Rattle.message.specs.Header.{isMessage, totalLength, wellFormed}
+use Rattle.message.specs.Header.{isMessage}
 use Rattle.message.proofs.Formed.{message-long}
-use Rattle.message.proofs.Tests.{and-l, and-r}
 use Rattle.channel.specs.Numbers.{entry, found, need}
-use Rattle.channel.specs.Ring.{allowed, head, status, tail, used}
-use Rattle.channel.specs.State.{State, activeReceive, activeSend, allZero, idle, idleAt, zeros}
-use Rattle.delivery.specs.Demand.{window}
+use Rattle.channel.specs.Ring.{allowed, head, status, tail, used, window}
+use Rattle.channel.specs.State.{State, idleAt}
+use Rattle.channel.proofs.Chains.{allowed-low, cases}
+use Rattle.channel.proofs.Ring.{gap}
 use Rattle.delivery.specs.Operations.{Channel}
 use Rattle.delivery.specs.Plain.{Plain, Receiving, Sending, descriptor, first, notReceiving, notSending, receiving, sending}
-use Rattle.delivery.proofs.Ring.{flat, gap}
+use Rattle.delivery.proofs.Queue.{flat}
 
 -- a plain channel by its parts
 abbrev pub plain : ℕ → List ℕ → List (List ℕ) → ℕ → ℕ → Sending → Receiving → Plain
@@ -85,10 +85,6 @@ pub record Inv (p : Plain) : Type 0 where
 
 -- ---- tests and chains of them
 
-pub cases : {X : Type 0} (t : Bool) → (t ≡ true → X) → (t ≡ false → X) → X
-cases true f g = f refl
-cases false f g = g refl
-
 -- what is at most l and not l is below it
 pub below-is : (k l : ℕ) → k ≤ l → ltb k l ≡ not (eqb k l)
 below-is k l h =
@@ -96,56 +92,13 @@ below-is k l h =
     (λ e. rw e (le-ltb k l (omega (arith, eqb-true k l e))))
     (λ e. rw e (lt-ltb k l (omega (arith, eqb-false k l e))))
 
--- a test of a chain that holds, and one that fails
-pub ok : {t : Bool} {r : ℕ} (c : ℕ) → t ≡ true → need t c r ≡ r
-unfolding need
-ok c e = rw e
-
+-- a test of a chain that fails
 pub bad : {t : Bool} {c : ℕ} (r : ℕ) → t ≡ false → need t c r ≡ c
 unfolding need
 bad r e = rw e
 
 pub empty-receiving : {X : Type 0} (k : ℕ) → MidReceive [] k → X
 empty-receiving k c = absurd (omega (arith, message-long [] (c .is-message)))
-
-pub allowed-low : (n : ℕ) → allowed n ≡ true → 1024 ≤ n
-unfolding allowed
-allowed-low n e = leb-true 1024 n (search (and-l, and-r))
-
--- ---- which states fit
-
-module _ (n o : ℕ) (h : o < n) where
-  made-for : (eqb n n && ltb o n) ≡ true
-  made-for = rw (eq-eqb n n refl, lt-ltb o n h)
-
-  pub idle-idle : idle n (idleAt n o) ≡ true
-  unfolding idle allZero zeros
-  idle-idle = rw made-for
-
-  pub idle-active-send : activeSend n (idleAt n o) ≡ false
-  unfolding activeSend
-  idle-active-send = rw made-for
-
-  pub idle-active-receive : activeReceive n (idleAt n o) ≡ false
-  unfolding activeReceive
-  idle-active-receive = rw made-for
-
-  pub busy-idle : (l k : ℕ) (c : List ℕ) → 1 ≤ l → idle n (record { n = n; own = o; len = l; moved = k; copy = c }) ≡ false
-  unfolding idle
-  busy-idle l k c g = rw (made-for, ne-eqb l 0 (λ e. omega arith))
-
-  pub busy-active-send :
-      (l k : ℕ) (c : List ℕ) → 2 ≤ l → l ≤ 256 → k ≤ l → l ≡ totalLength (getD c 0 0) → wellFormed (getD c 0 0) (getD c 1 0) ≡ true
-      → activeSend n (record { n = n; own = o; len = l; moved = k; copy = c }) ≡ true
-  unfolding activeSend
-  busy-active-send l k c a b d e f = rw (made-for, le-leb 2 l a, le-leb l 256 b, le-leb k l d, eq-eqb _ _ e) f
-
-  pub busy-active-receive :
-      (l k : ℕ) (c : List ℕ) → 1 ≤ l → l ≤ 256 → 1 ≤ k → k ≤ l → l ≡ totalLength (getD c 0 0)
-      → activeReceive n (record { n = n; own = o; len = l; moved = k; copy = c }) ≡ true
-  unfolding activeReceive
-  busy-active-receive l k c a b d e f =
-      rw (made-for, le-leb 1 l a, le-leb l 256 b, le-leb 1 k d, le-leb k l e) (eq-eqb _ _ f)
 
 -- ---- what every step finds in the plain channel's descriptor and buffer
 

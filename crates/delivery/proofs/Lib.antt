@@ -1,4 +1,4 @@
-pub mod Ring
+pub mod Queue
 pub mod Invariant
 pub mod Wholes
 pub mod SendSteps

@@ -10,14 +10,14 @@ use borrow.Author.Tests.{le-leb}
 use Rattle.message.specs.Header.{isMessage}
 use Rattle.message.proofs.Formed.{message-long, message-short}
 use Rattle.channel.specs.Numbers.{need}
-use Rattle.channel.specs.Ring.{allowed}
+use Rattle.channel.specs.Ring.{allowed, stored}
+use Rattle.channel.proofs.Chains.{allowed-low, cases, ok}
 use Rattle.delivery.specs.Demand.{received}
 use Rattle.delivery.specs.Loopback.{Loopback, Looped, comesBack, firstReceive, firstSend}
 use Rattle.delivery.specs.Operations.{Seen, plainRun, plainSeen, receiveWhole, run, seen, sendWhole}
 use Rattle.delivery.specs.Plain.{Answer, Plain, notReceiving, notSending}
 use Rattle.delivery.specs.Plain
-use Rattle.delivery.proofs.Invariant.{allowed-low, bad, cases, ok, plain}
-use Rattle.delivery.proofs.Ring.{stores}
+use Rattle.delivery.proofs.Invariant.{bad, plain}
 use Rattle.delivery.proofs.Theorem.{demand3}
 use Rattle.delivery.proofs.Wholes.{receive-whole-none, receive-whole-ok, receive-whole-short, refusal, roomNumber, send-whole-ok, send-whole-refused}
 
@@ -39,7 +39,7 @@ module _ (b m o : List ℕ) (a : allowed (length b) ≡ true) where
   room f =
       ok 4 f ∙ ok 10 (le-leb (length m) (length b - 1 - (0 - 0)) (omega (arith, message-short m f, allowed-low (length b) a)))
 
-  sent : isMessage m ≡ true → plain-send b m ≡ record { code = 0; len = 0; out = []; next = plain (length b) (stores b (length b) 0 m) (m ∷ []) (0 + length m) 0 notSending notReceiving }
+  sent : isMessage m ≡ true → plain-send b m ≡ record { code = 0; len = 0; out = []; next = plain (length b) (stored b (length b) 0 m) (m ∷ []) (0 + length m) 0 notSending notReceiving }
   unfolding plain-send opened
   sent f = send-whole-ok (length b) b [] 0 0 notReceiving m (room f)
 
@@ -47,15 +47,15 @@ module _ (b m o : List ℕ) (a : allowed (length b) ≡ true) where
   unfolding plain-send opened roomNumber
   not-sent f = send-whole-refused (length b) b [] 0 0 notReceiving m 4 (bad _ f) refl
 
-  came-back : isMessage m ≡ true → leb 256 (length o) ≡ true → plain-receive b m o ≡ record { code = 0; len = length m; out = m ++ drop (length m) o; next = plain (length b) (stores b (length b) 0 m) [] (0 + length m) (0 + length m) notSending notReceiving }
+  came-back : isMessage m ≡ true → leb 256 (length o) ≡ true → plain-receive b m o ≡ record { code = 0; len = length m; out = m ++ drop (length m) o; next = plain (length b) (stored b (length b) 0 m) [] (0 + length m) (0 + length m) notSending notReceiving }
   unfolding plain-receive
-  came-back f l = rw (sent f) (receive-whole-ok (length b) (stores b (length b) 0 m) (0 + length m) 0 notSending o l m [] (omega (arith, message-long m f)))
+  came-back f l = rw (sent f) (receive-whole-ok (length b) (stored b (length b) 0 m) (0 + length m) 0 notSending o l m [] (omega (arith, message-long m f)))
 
   short : leb 256 (length o) ≡ false → plain-receive b m o ≡ refusal 5 o (plain-send b m .next)
   unfolding plain-receive opened
   short l =
       cases (isMessage m)
-      (λ f. rw (sent f) (receive-whole-short (length b) (stores b (length b) 0 m) (m ∷ []) (0 + length m) 0 notSending o l))
+      (λ f. rw (sent f) (receive-whole-short (length b) (stored b (length b) 0 m) (m ∷ []) (0 + length m) 0 notSending o l))
       (λ f. rw (not-sent f) (receive-whole-short (length b) b [] 0 0 notSending o l))
 
   nothing : isMessage m ≡ false → leb 256 (length o) ≡ true → plain-receive b m o ≡ refusal 11 o (opened b)

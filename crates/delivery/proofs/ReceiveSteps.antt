@@ -13,16 +13,20 @@ use lib.Seq.{take-suc, take-all, getD-take, length-take-le, set-at, append-snoc,
 use lib.Dec.{leb, eqb}
 use Rattle.message.specs.Header.{isMessage, totalLength, wellFormed}
 use Rattle.message.proofs.Formed.{message-formed, message-length, message-long, message-short}
+use Rattle.channel.specs.AtOnce.{receive}
 use Rattle.channel.specs.Numbers.{marked, need, receiveFound}
 use Rattle.channel.specs.Outcome.{Outcome}
+use Rattle.channel.specs.Ring.{window}
 use Rattle.channel.specs.State.{activeReceive, idle}
 use Rattle.channel.specs.Receive
-use Rattle.delivery.specs.Demand.{window}
+use Rattle.channel.proofs.Chains.{cases, ok}
+use Rattle.channel.proofs.Fits.{busy-active-receive, busy-idle, idle-active-receive, idle-idle}
+use Rattle.channel.proofs.Ring.{window-append, window-at, window-length}
 use Rattle.delivery.specs.Plain.{Answer, Plain, Receiving, Sending, descriptor, first, notReceiving, notSending, receiving, sending}
 use Rattle.delivery.specs.Plain
 use Rattle.delivery.proofs.Facts.{done}
-use Rattle.delivery.proofs.Invariant.{Inv, InvSend, bad, below-is, busy-active-receive, busy-idle, cases, empty-receiving, entry-ok, found-receive, idle-active-receive, idle-idle, ok, own-receive, plain, receiveState, receiverOf, senderOf, used-eq}
-use Rattle.delivery.proofs.Ring.{flat, window-append, window-at, window-length}
+use Rattle.delivery.proofs.Invariant.{Inv, InvSend, bad, below-is, empty-receiving, entry-ok, found-receive, own-receive, plain, receiveState, receiverOf, senderOf, used-eq}
+use Rattle.delivery.proofs.Queue.{flat}
 
 abbrev pub asReceiver : Answer → Outcome
 asReceiver x =
@@ -184,7 +188,7 @@ module _ (n : ℕ) (b : List ℕ) (P R : ℕ) (s : Sending) where
   pub-code :
       (q : List (List ℕ)) (r : Receiving) (o : List ℕ) → Inv (plain n b q P R s r)
       → Receive.publishNumber (receiveState n R (first q) r) o (descriptor (plain n b q P R s r)) b ≡ Plain.receivePublishNumber (plain n b q P R s r) o
-  unfolding Receive.publishNumber Plain.receivePublishNumber
+  unfolding Receive.publishNumberOf Plain.receivePublishNumber
   pub-code q notReceiving o g = entry-ok _ g _ _ ∙ bad _ (fits-not-active q g)
   pub-code q (receiving k) o g =
       entry-ok _ g _ _ ∙ ok 3 (fits-active q k g) ∙ ap (need (leb 256 (length o)) 5) (cases (leb (length (first q)) k)

@@ -7,16 +7,17 @@ use native.Mathlib.Nat.{zero-mod}
 use native.Mathlib.Omega.{arith}
 use borrow.Author.Tests.{eq-eqb}
 use lib.ListN.{length}
+use Rattle.channel.specs.AtOnce.{receive}
 use Rattle.channel.specs.Numbers.{need}
 use Rattle.channel.specs.Opening.{openBy, openNumber, opening}
 use Rattle.channel.specs.Outcome.{Outcome}
-use Rattle.channel.specs.Ring.{allowed}
-use Rattle.delivery.specs.Demand.{window}
+use Rattle.channel.specs.Ring.{allowed, window}
+use Rattle.channel.proofs.Chains.{allowed-low}
 use Rattle.delivery.specs.Operations.{Channel, Op, after, begun, end, next, outcome, plainAnswer, plainEnd, plainRun, plainSeen, receiveLook, receiveMove, receivePublish, receiveWhole, run, seen, sendLook, sendMove, sendPublish, sendWhole}
 use Rattle.delivery.specs.Plain.{Answer, Plain, descriptor, fresh}
-use Rattle.delivery.proofs.Invariant.{Inv, allowed-low, channelOf}
+use Rattle.delivery.proofs.Invariant.{Inv, channelOf}
+use Rattle.delivery.proofs.Queue.{flat}
 use Rattle.delivery.proofs.ReceiveSteps.{ReceiveSim}
-use Rattle.delivery.proofs.Ring.{flat}
 use Rattle.delivery.proofs.SendSteps.{SendSim}
 use Rattle.delivery.proofs.ReceiveSteps
 use Rattle.delivery.proofs.SendSteps

@@ -14,15 +14,17 @@ use Rattle.message.specs.Header.{isMessage, totalLength}
 use Rattle.message.proofs.Formed.{message-length, message-long}
 use Rattle.channel.specs.Numbers.{need}
 use Rattle.channel.specs.Outcome.{Outcome}
-use Rattle.channel.specs.Ring.{allowed}
+use Rattle.channel.specs.Ring.{allowed, stored, window}
 use Rattle.channel.specs.Send
-use Rattle.delivery.specs.Demand.{Call, Demand3, Serial, StoresAt, Unreleased, answers, cut, ended, endedBy, held, midway, published, publishedBy, received, receivedBy, result, unread, wholes, window}
+use Rattle.channel.proofs.Chains.{cases}
+use Rattle.channel.proofs.Ring.{apart, window-mod}
+use Rattle.delivery.specs.Demand.{Call, Demand3, Serial, StoresAt, Unreleased, answers, cut, ended, endedBy, held, midway, published, publishedBy, received, receivedBy, result, unread, wholes}
 use Rattle.delivery.specs.Operations.{Channel, Op, Seen, after, end, plainAnswer, plainEnd, plainRun, plainSeen, receiveLook, receiveMove, receivePublish, receiveWhole, run, sendLook, sendMove, sendPublish, sendWhole}
 use Rattle.delivery.specs.Plain.{Answer, Plain, Receiving, Sending, descriptor, fresh, notSending, sending}
 use Rattle.delivery.specs.Plain
 use Rattle.delivery.proofs.Facts.{HoldsMessage, Lacks, RanWhole, StepFacts, facts, serialOf}
-use Rattle.delivery.proofs.Invariant.{AllMessages, Inv, cases, channelOf, plain, sendState, senderOf, used-eq}
-use Rattle.delivery.proofs.Ring.{apart, flat, stores, window-mod}
+use Rattle.delivery.proofs.Invariant.{AllMessages, Inv, channelOf, plain, sendState, senderOf, used-eq}
+use Rattle.delivery.proofs.Queue.{flat}
 use Rattle.delivery.proofs.SendSteps.{SendSim, asSender}
 use Rattle.delivery.proofs.Simulation.{begin-eq, end-good, end-sim, fresh-good, open-code, run-sim, step-sim}
 use Rattle.delivery.proofs.Wholes.{send-moves}
@@ -95,7 +97,7 @@ module _ (any : ℕ → List ℕ) (any-len : (i : ℕ) → length (any i) ≡ 25
       let r : RanWhole p z (plainAnswer p o) (endedBy (any (length os)) c o (plainSeen (plainAnswer p o))) = f .ran c h (any (length os)) (any-len (length os)) z l in
       chain p z (plainAnswer p o) _ _ _ r (serial-run os (plainAnswer p o .next) (step-sim p g o .good) (held c o (plainSeen (plainAnswer p o))) (f .holds c h) (r .z′) (r .lin))
 
--- ---- stores
+-- ---- stored
 
 module _ (n : ℕ) (b : List ℕ) (q : List (List ℕ)) (P R : ℕ) (r : Receiving) (j : ℕ) where
   -- place (P + k) mod N, where L dwords fit and k is below L, is not one that is held
@@ -122,8 +124,8 @@ module _ (n : ℕ) (b : List ℕ) (q : List (List ℕ)) (P R : ℕ) (r : Receivi
       let p : Plain = plain n b q P R notSending r in
       let l : SendSim p (Send.look (sendState n P notSending) m (descriptor p) b) (Plain.sendLook p m) = SendSteps.look-sim p g m in
       let w : SendSim (Plain.sendLook p m .next) (Send.moves k (asSender (Plain.sendLook p m))) (Plain.sendMoves k (Plain.sendLook p m)) = SendSteps.moves-sim k (Plain.sendLook p m) (l .good) in
-      let y : Plain.sendMoves k (Plain.sendLook p m) .next ≡ plain n (stores b n P (take k m)) q P R (sending k m) r = send-moves n b q P R r m k (Plain.sendLook p m) (omega arith) (rw (t, u)) in
-      let z : length (stores b n P (take k m)) ≡ n = sym (ap (λ (v : Plain). length (v .buf)) y) ∙ w .good .size ∙ ap (λ (v : Plain). v .n) y in
+      let y : Plain.sendMoves k (Plain.sendLook p m) .next ≡ plain n (stored b n P (take k m)) q P R (sending k m) r = send-moves n b q P R r m k (Plain.sendLook p m) (omega arith) (rw (t, u)) in
+      let z : length (stored b n P (take k m)) ≡ n = sym (ap (λ (v : Plain). length (v .buf)) y) ∙ w .good .size ∙ ap (λ (v : Plain). v .n) y in
       ap (λ (a : Outcome). Send.place (a .next) (a .buf)) (ap (Send.moves k) (l .same) ∙ w .same) ∙ ap (λ (v : Plain). Send.place (senderOf v) (v .buf)) y ∙ ap (λ (x : ℕ). (P % n + k) % x) z
 
   whole-safe :
@@ -184,7 +186,7 @@ module _ (b : List ℕ) (a : allowed (length b) ≡ true) (list : List Op) where
   serial₀ :
       plainEnd (fresh (length b) b) list .send ≡ notSending → (any : ℕ → List ℕ) → ((i : ℕ) → length (any i) ≡ 256)
       → Serial (channelOf (fresh (length b) b)) (ended any [] list (run (channelOf (fresh (length b) b)) list)) (end (channelOf (fresh (length b) b)) list)
-  unfolding stores descriptor
+  unfolding stored descriptor
   serial₀ s any l =
       let p : Plain = plainEnd (fresh (length b) b) list in
       let cs : List Call = ended any [] list (plainRun (fresh (length b) b) list) in

@@ -1,20 +1,21 @@
 -- A whole call of the plain channel, at once. Assumes nothing.
-use mathlib.Core.Path.{_≡_, refl, sym, ap, _∙_}
+use mathlib.Core.Path.{_≡_, refl, ap, _∙_}
 use mathlib.Core.Bool.{true, false}
 use mathlib.Core.List.{List, [], _∷_, _++_}
-use Prim.Native.Nat.{ℕ, zero, suc, _+_, _-_, _%_, _≤_, _<_}
+use Prim.Native.Nat.{ℕ, zero, suc, _+_, _-_, _≤_}
 use native.Mathlib.Omega.{arith}
 use native.Mathlib.Numerals.{add-one}
 use borrow.Author.Tests.{le-leb, ne-eqb}
-use lib.ListN.{length, getD, take, drop, set}
-use lib.Seq.{take-suc, take-all, length-take-le}
+use lib.ListN.{length, take, drop}
+use lib.Seq.{take-all}
 use lib.Dec.{leb, eqb}
 use Rattle.message.specs.Header.{isMessage}
 use Rattle.channel.specs.Numbers.{need}
+use Rattle.channel.specs.Ring.{stored}
+use Rattle.channel.proofs.Ring.{stored-take}
 use Rattle.delivery.specs.Plain.{Answer, Plain, Receiving, Sending, first, notReceiving, notSending, receiving, sending}
 use Rattle.delivery.specs.Plain
 use Rattle.delivery.proofs.Invariant.{plain}
-use Rattle.delivery.proofs.Ring.{stores, stores-snoc}
 
 -- the answer of a refusal
 abbrev pub refusal : ℕ → List ℕ → Plain → Answer
@@ -24,35 +25,30 @@ refusal c o p = record { code = c; len = 0; out = o; next = p }
 unfoldable pub roomNumber : ℕ → ℕ → ℕ → List ℕ → ℕ
 roomNumber n P R m = need (isMessage m) 4 (need (leb (length m) (n - 1 - (P - R))) 10 0)
 
-pub stores-take : (b : List ℕ) (n P : ℕ) (m : List ℕ) (k : ℕ) → k < length m → set (stores b n P (take k m)) ((P + k) % n) (getD m k 0) ≡ stores b n P (take (suc k) m)
-stores-take b n P m k h =
-    let e : length (take k m) ≡ k = length-take-le k m (omega arith) in
-    ap (λ (x : ℕ). set (stores b n P (take k m)) ((P + x) % n) (getD m k 0)) (sym e) ∙ sym (stores-snoc b n P (take k m) (getD m k 0)) ∙ ap (stores b n P) (sym (take-suc m k 0 h))
-
 module _ (n : ℕ) (b : List ℕ) (q : List (List ℕ)) (P R : ℕ) where
   module _ (r : Receiving) (m : List ℕ) where
     -- k dwords moved, and j more
-    pub send-moves-eq : (j k : ℕ) (x : Answer) → k + j ≤ length m → x .next ≡ plain n (stores b n P (take k m)) q P R (sending k m) r → Plain.sendMoves j x .next ≡ plain n (stores b n P (take (k + j) m)) q P R (sending (k + j) m) r
+    pub send-moves-eq : (j k : ℕ) (x : Answer) → k + j ≤ length m → x .next ≡ plain n (stored b n P (take k m)) q P R (sending k m) r → Plain.sendMoves j x .next ≡ plain n (stored b n P (take (k + j) m)) q P R (sending (k + j) m) r
     unfolding Plain.sendMoves Plain.sendMoveBy Plain.sendMoveNumber Plain.sendMoved need
     send-moves-eq zero k x h f =
         let e : k ≡ k + 0 = omega arith in
-        f ∙ ap (λ (i : ℕ). plain n (stores b n P (take i m)) q P R (sending i m) r) e
+        f ∙ ap (λ (i : ℕ). plain n (stored b n P (take i m)) q P R (sending i m) r) e
     send-moves-eq (suc j) k x h f =
-        let t : Plain.sendMove (x .next) .next ≡ plain n (stores b n P (take (suc k) m)) q P R (sending (suc k) m) r = rw (f, ne-eqb k (length m) (λ w. omega arith), add-one k, stores-take b n P m k (omega arith)) in
+        let t : Plain.sendMove (x .next) .next ≡ plain n (stored b n P (take (suc k) m)) q P R (sending (suc k) m) r = rw (f, ne-eqb k (length m) (λ w. omega arith), add-one k, stored-take b n P m k (omega arith)) in
         let e : suc k + j ≡ k + suc j = omega arith in
-        send-moves-eq j (suc k) (Plain.sendMove (x .next)) (omega arith) t ∙ ap (λ (i : ℕ). plain n (stores b n P (take i m)) q P R (sending i m) r) e
+        send-moves-eq j (suc k) (Plain.sendMove (x .next)) (omega arith) t ∙ ap (λ (i : ℕ). plain n (stored b n P (take i m)) q P R (sending i m) r) e
 
-    pub send-moves : (j : ℕ) (x : Answer) → j ≤ length m → x .next ≡ plain n b q P R (sending 0 m) r → Plain.sendMoves j x .next ≡ plain n (stores b n P (take j m)) q P R (sending j m) r
-    unfolding stores
+    pub send-moves : (j : ℕ) (x : Answer) → j ≤ length m → x .next ≡ plain n b q P R (sending 0 m) r → Plain.sendMoves j x .next ≡ plain n (stored b n P (take j m)) q P R (sending j m) r
+    unfolding stored
     send-moves j x h f =
         let e : 0 + j ≡ j = omega arith in
-        send-moves-eq j 0 x (omega arith) f ∙ ap (λ (i : ℕ). plain n (stores b n P (take i m)) q P R (sending i m) r) e
+        send-moves-eq j 0 x (omega arith) f ∙ ap (λ (i : ℕ). plain n (stored b n P (take i m)) q P R (sending i m) r) e
 
-    pub send-whole-ok : roomNumber n P R m ≡ 0 → Plain.sendWhole (plain n b q P R notSending r) m ≡ record { code = 0; len = 0; out = []; next = plain n (stores b n P m) (q ++ (m ∷ [])) (P + length m) R notSending r }
-    unfolding Plain.sendRest Plain.sendLookBy Plain.sendLookNumber roomNumber Plain.sendPublishBy Plain.sendPublishNumber Plain.sendPublished need stores
+    pub send-whole-ok : roomNumber n P R m ≡ 0 → Plain.sendWhole (plain n b q P R notSending r) m ≡ record { code = 0; len = 0; out = []; next = plain n (stored b n P m) (q ++ (m ∷ [])) (P + length m) R notSending r }
+    unfolding Plain.sendRest Plain.sendLookBy Plain.sendLookNumber roomNumber Plain.sendPublishBy Plain.sendPublishNumber Plain.sendPublished need stored
     send-whole-ok e =
         let x : Answer = record { code = 0; len = 0; out = []; next = plain n b q P R (sending 0 m) r } in
-        let t : Plain.sendMoves (length m) x .next ≡ plain n (stores b n P m) q P R (sending (length m) m) r = send-moves (length m) x (omega arith) refl ∙ ap (λ (l : List ℕ). plain n (stores b n P l) q P R (sending (length m) m) r) (take-all (length m) m (omega arith)) in
+        let t : Plain.sendMoves (length m) x .next ≡ plain n (stored b n P m) q P R (sending (length m) m) r = send-moves (length m) x (omega arith) refl ∙ ap (λ (l : List ℕ). plain n (stored b n P l) q P R (sending (length m) m) r) (take-all (length m) m (omega arith)) in
         rw e (rw (t, le-leb (length m) (length m) (omega arith)))
 
     pub send-whole-refused : (c : ℕ) → roomNumber n P R m ≡ c → eqb c 0 ≡ false → Plain.sendWhole (plain n b q P R notSending r) m ≡ refusal c [] (plain n b q P R notSending r)

@@ -7,7 +7,7 @@ use mathlib.Core.List.{List, [], _∷_, _++_, map}
 use lib.ListN.{length, getD, take, drop}
 use lib.Dec.{eqb}
 use Rattle.message.specs.Header.{totalLength}
-use Rattle.channel.specs.Ring.{allowed, head, tail, used}
+use Rattle.channel.specs.Ring.{allowed, head, tail, used, window}
 use Rattle.channel.specs.Outcome.{Outcome}
 use Rattle.channel.specs.Opening.{opening}
 use Rattle.channel.specs.Send
@@ -58,11 +58,6 @@ unfoldable pub received : List Op → List Seen → List (List ℕ)
 received [] ss = []
 received (o ∷ os) [] = []
 received (o ∷ os) (a ∷ ss) = receivedBy o a ++ received os ss
-
--- k dwords of the buffer from place i on, around its end
-unfoldable pub window : List ℕ → ℕ → ℕ → ℕ → List ℕ
-window b n i zero = []
-window b n i (suc k) = getD b (i % n) 0 ∷ window b n (suc i) k
 
 -- dwords cut into messages by their headers, at most `most` of them
 unfoldable pub cut : ℕ → List ℕ → List (List ℕ)

@@ -1,14 +1,14 @@
--- The ring: offsets modulo N, and runs of dwords read and written around it.
+-- The ring: offsets modulo N, and runs of dwords read and stored around it. Assumes nothing.
 use mathlib.Core.Path.{_≡_, refl, sym, ap, _∙_}
 use mathlib.Core.Logic.{_≢_}
-use mathlib.Core.List.{List, [], _∷_, _++_, append-assoc, append-nil}
+use mathlib.Core.List.{List, [], _∷_, _++_}
 use Prim.Native.Nat.{ℕ, zero, suc, _+_, _-_, _%_, _≤_, _<_}
 use native.Mathlib.Nat.{mod-lt, mod-eq-of-lt, mod-add-mod, add-mod-right, mod-eq-sub-mod, mod-self, suc-mod}
 use native.Mathlib.Decide.{decLt}
 use native.Mathlib.Omega.{arith}
-use lib.ListN.{length, getD, set}
-use lib.Seq.{getD-set-other}
-use Rattle.delivery.specs.Demand.{window}
+use lib.ListN.{length, getD, set, take, length-set}
+use lib.Seq.{getD-set-other, take-suc, length-take-le}
+use Rattle.channel.specs.Ring.{stored, window}
 
 -- the distance between two offsets that are less than N apart
 pub gap : (n r u : ℕ) → u < n → ((r + u) % n + n - r % n) % n ≡ u
@@ -75,29 +75,28 @@ window-mod b n i j (suc k) e =
 
 -- ---- dwords stored one after another from place i on
 
-unfoldable pub stores : List ℕ → ℕ → ℕ → List ℕ → List ℕ
-stores b n i [] = b
-stores b n i (x ∷ xs) = stores (set b (i % n) x) n (suc i) xs
+pub stored-snoc : (b : List ℕ) (n i : ℕ) (xs : List ℕ) (x : ℕ) → stored b n i (xs ++ (x ∷ [])) ≡ set (stored b n i xs) ((i + length xs) % n) x
+unfolding stored
+stored-snoc b n i [] x = ap (λ (k : ℕ). set b (k % n) x) (omega arith)
+stored-snoc b n i (y ∷ ys) x =
+    stored-snoc (set b (i % n) y) n (suc i) ys x ∙ ap (λ (k : ℕ). set (stored (set b (i % n) y) n (suc i) ys) (k % n) x) (omega arith)
 
-pub stores-snoc : (b : List ℕ) (n i : ℕ) (xs : List ℕ) (x : ℕ) → stores b n i (xs ++ (x ∷ [])) ≡ set (stores b n i xs) ((i + length xs) % n) x
-unfolding stores
-stores-snoc b n i [] x = ap (λ (k : ℕ). set b (k % n) x) (omega arith)
-stores-snoc b n i (y ∷ ys) x =
-    stores-snoc (set b (i % n) y) n (suc i) ys x ∙ ap (λ (k : ℕ). set (stores (set b (i % n) y) n (suc i) ys) (k % n) x) (omega arith)
+pub stored-other : (b : List ℕ) (n i : ℕ) (xs : List ℕ) (j : ℕ) → ((t : ℕ) → i ≤ t → t < i + length xs → j ≢ t % n) → getD (stored b n i xs) j 0 ≡ getD b j 0
+unfolding stored
+stored-other b n i [] j h = refl
+stored-other b n i (x ∷ xs) j h =
+    stored-other (set b (i % n) x) n (suc i) xs j (λ t u w. h t (omega arith) (omega arith)) ∙ getD-set-other b (i % n) j x 0 (h i (omega arith) (omega arith))
 
-pub stores-other : (b : List ℕ) (n i : ℕ) (xs : List ℕ) (j : ℕ) → ((t : ℕ) → i ≤ t → t < i + length xs → j ≢ t % n) → getD (stores b n i xs) j 0 ≡ getD b j 0
-unfolding stores
-stores-other b n i [] j h = refl
-stores-other b n i (x ∷ xs) j h =
-    stores-other (set b (i % n) x) n (suc i) xs j (λ t u w. h t (omega arith) (omega arith)) ∙ getD-set-other b (i % n) j x 0 (h i (omega arith) (omega arith))
+pub stored-length : (b : List ℕ) (n i : ℕ) (xs : List ℕ) → length (stored b n i xs) ≡ length b
+unfolding stored
+stored-length b n i [] = refl
+stored-length b n i (x ∷ xs) = stored-length (set b (i % n) x) n (suc i) xs ∙ length-set b (i % n) x
 
--- ---- messages laid end to end
-
-unfoldable pub flat : List (List ℕ) → List ℕ
-flat [] = []
-flat (m ∷ q) = m ++ flat q
-
-pub flat-snoc : (q : List (List ℕ)) (m : List ℕ) → flat (q ++ (m ∷ [])) ≡ flat q ++ m
-unfolding flat
-flat-snoc [] m = append-nil m
-flat-snoc (x ∷ q) m = ap (λ (l : List ℕ). x ++ l) (flat-snoc q m) ∙ sym (append-assoc x (flat q) m)
+-- one dword more of a list
+pub stored-take :
+    (b : List ℕ) (n i : ℕ) (m : List ℕ) (k : ℕ) → k < length m
+    → set (stored b n i (take k m)) ((i + k) % n) (getD m k 0) ≡ stored b n i (take (suc k) m)
+stored-take b n i m k h =
+    let e : length (take k m) ≡ k = length-take-le k m (omega arith) in
+    ap (λ (x : ℕ). set (stored b n i (take k m)) ((i + x) % n) (getD m k 0)) (sym e) ∙ sym (stored-snoc b n i (take k m) (getD m k 0))
+    ∙ ap (stored b n i) (sym (take-suc m k 0 h))

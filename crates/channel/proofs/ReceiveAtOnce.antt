@@ -1,0 +1,365 @@
+-- A whole receive at once is its steps one after another: the law by which the code of a whole receive meets its definition. Assumes nothing.
+use Prim.Native.Nat.{ℕ, zero, suc, _+_, _-_, _%_, _≤_, _<_}
+use mathlib.Core.Path.{_≡_, refl, sym, ap, _∙_, subst}
+use mathlib.Core.Bool.{Bool, true, false, not, _&&_, _||_, cond}
+use mathlib.Core.List.{List, [], _∷_, _++_}
+use native.Mathlib.Omega.{arith}
+use native.Mathlib.Nat.{mod-lt, mod-eq-of-lt}
+use lib.ListN.{length, getD, drop, set, replicate}
+use lib.Seq.{set-at, append-snoc, take-at}
+use lib.Dec.{eqb, leb, ltb}
+use borrow.Author.Tests.{eqb-true, le-leb, lt-ltb, leb-true, ltb-true, not-true}
+use Rattle.message.specs.Header.{totalLength, wellFormed}
+use Rattle.message.proofs.Tests.{and-l}
+use Rattle.channel.specs.AtOnce.{AtOnce, ended, messageAt, receive, receiveBy, receiveNumber, takeNumber}
+use Rattle.channel.specs.Numbers.{entry, found, marked, need, receiveFound}
+use Rattle.channel.specs.Outcome.{Outcome}
+use Rattle.channel.specs.Ring.{HEAD, allowed, head, status, tail, used, window}
+use Rattle.channel.specs.State.{State, activeReceive, header, idle, idleAt, second}
+use Rattle.channel.specs.Receive
+use Rattle.channel.specs.declared.state.Ended.{Ended}
+use Rattle.channel.proofs.Chains.{cases, ok, passed, passed-rest, tested, Entered, entered, entered-fits, entered-rest}
+use Rattle.channel.proofs.Fits.{busy-active-receive, idle-same}
+use Rattle.channel.proofs.Ring.{window-append, window-at, window-length}
+
+-- the outcome of a whole receive, with the state s before it
+abbrev pub receiveOutcome : State → AtOnce → Outcome
+receiveOutcome s x =
+    record {
+      code = x .code;
+      len = x .len;
+      next = cond (eqb (x .code) 0 || eqb (x .code) 13) (idleAt (s .n) (x .own)) s;
+      desc = x .desc;
+      buf = x .buf;
+      out = x .out;
+    }
+
+-- zeros after a list change no place of it
+padded : (xs : List ℕ) (k i : ℕ) → getD (xs ++ replicate k 0) i 0 ≡ getD xs i 0
+padded [] zero i = refl
+padded [] (suc k) zero = refl
+padded [] (suc k) (suc i) = padded [] k i
+padded (x ∷ xs) k zero = refl
+padded (x ∷ xs) k (suc i) = padded xs k i
+
+-- what a look of a receive finds is never 13
+chain-13 : (a b c d e : Bool) → eqb (need a 6 (need b 7 (need c 8 (need d 9 (need e 11 0))))) 13 ≡ false
+unfolding need
+chain-13 false b c d e = refl
+chain-13 true false c d e = refl
+chain-13 true true false d e = refl
+chain-13 true true true false e = refl
+chain-13 true true true true false = refl
+chain-13 true true true true true = refl
+
+found-not-13 : (n own st hd tl h : ℕ) → eqb (receiveFound n own st hd tl h) 13 ≡ false
+unfolding receiveFound found
+found-not-13 n own st hd tl h = chain-13 _ _ _ _ _
+
+-- what an accepted look of a receive has
+pub record Found (n own hd tl h : ℕ) : Type 0 where
+  pub own-head : own ≡ hd
+  pub below : own < n
+  pub whole : totalLength h ≤ used n hd tl
+
+module _ (n own st hd tl h : ℕ) (e : receiveFound n own st hd tl h ≡ 0) where
+  u : ℕ
+  u = used n hd tl
+
+  e₁ : need (ltb hd n && ltb tl n) 7 (need (eqb own hd) 8 (need (eqb u 0 || leb (totalLength h) u) 9 (need (not (eqb u 0)) 11 0))) ≡ 0
+  unfolding receiveFound found u
+  e₁ = passed-rest (eqb st 0) 6 _ 0 refl e
+
+  e₂ : need (eqb own hd) 8 (need (eqb u 0 || leb (totalLength h) u) 9 (need (not (eqb u 0)) 11 0)) ≡ 0
+  e₂ = passed-rest (ltb hd n && ltb tl n) 7 _ 0 refl e₁
+
+  e₃ : need (eqb u 0 || leb (totalLength h) u) 9 (need (not (eqb u 0)) 11 0) ≡ 0
+  e₃ = passed-rest (eqb own hd) 8 _ 0 refl e₂
+
+  e₄ : eqb u 0 ≡ false
+  e₄ = not-true (eqb u 0) (passed (not (eqb u 0)) 11 0 0 refl (passed-rest (eqb u 0 || leb (totalLength h) u) 9 _ 0 refl e₃))
+
+  pub found-accepted : Found n own hd tl h
+  unfolding u
+  found-accepted =
+      let o : own ≡ hd = eqb-true own hd (passed (eqb own hd) 8 _ 0 refl e₂) in
+      let b : hd < n = ltb-true hd n (and-l (ltb hd n) (ltb tl n) (passed (ltb hd n && ltb tl n) 7 _ 0 refl e₁)) in
+      let l = passed (eqb (used n hd tl) 0 || leb (totalLength h) (used n hd tl)) 9 _ 0 refl e₃ in
+      record { own-head = o; below = omega arith; whole = leb-true (totalLength h) (used n hd tl) (rw e₄ at l) }
+
+-- L is from 1 to 256
+pub total-low : (h : ℕ) → 1 ≤ totalLength h
+total-low h = omega arith
+
+pub total-high : (h : ℕ) → totalLength h ≤ 256
+total-high h = omega arith
+
+module _ (s : State) (d b : List ℕ) where
+  h₀ : ℕ
+  h₀ = getD b (s .own) 0
+
+  l₀ : ℕ
+  l₀ = totalLength h₀
+
+  -- a receive after its look and all but one of k copies
+  taking : ℕ → State
+  taking k =
+      record { n = s .n; own = s .own; len = l₀; moved = k; copy = window b (length b) (s .own) k ++ replicate (256 - k) 0 }
+
+  midway : ℕ → Outcome
+  midway k = record { code = 0; len = 0; next = taking k; desc = d; buf = b; out = [] }
+
+  module _ (sixteen : length d ≡ 16) (is-allowed : allowed (length b) ≡ true) (same : s .n ≡ length b) (below : s .own < length b) where
+    -- the first dword copied is the header
+    copied-header : (k : ℕ) → 1 ≤ k → getD (taking k .copy) 0 0 ≡ h₀
+    unfolding taking h₀
+    copied-header k l =
+        let z : (s .own + 0) % length b ≡ s .own = ap (λ (x : ℕ). x % length b) (omega arith) ∙ mod-eq-of-lt below in
+        padded (window b (length b) (s .own) k) (256 - k) 0 ∙ window-at b (length b) (s .own) k 0 (omega arith) ∙ ap (λ (x : ℕ). getD b x 0) z
+
+    active : (k : ℕ) → 1 ≤ k → k ≤ l₀ → activeReceive (length b) (taking k) ≡ true
+    unfolding taking l₀
+    active k l h =
+        subst (λ (x : ℕ). activeReceive (length b) (record { n = x; own = s .own; len = l₀; moved = k; copy = taking k .copy }) ≡ true) (sym same)
+        (busy-active-receive (length b) (s .own) below l₀ k (taking k .copy) (total-low h₀) (total-high h₀) l h (ap totalLength (sym (copied-header k l))))
+
+    entry-ok : (t : Bool) (r : ℕ) → t ≡ true → entry (length d) (length b) t r ≡ r
+    unfolding entry need
+    entry-ok t r e = rw (sixteen, is-allowed, e)
+
+    move-number : (k : ℕ) → 1 ≤ k → k < l₀ → Receive.moveNumber (taking k) d b ≡ 0
+    unfolding Receive.moveNumber taking
+    move-number k l h = entry-ok _ _ (active k l (omega arith)) ∙ tested (ltb k l₀) 12 (lt-ltb k l₀ h)
+
+    copy-more :
+        (k : ℕ) → k < 256
+        → set (window b (length b) (s .own) k ++ replicate (256 - k) 0) k (getD b ((s .own + k) % length b) 0)
+        ≡ window b (length b) (s .own) (k + 1) ++ replicate (256 - (k + 1)) 0
+    unfolding window
+    copy-more k h =
+        let w : List ℕ = window b (length b) (s .own) k in
+        let v : ℕ = getD b ((s .own + k) % length b) 0 in
+        let z : List ℕ = replicate (256 - (k + 1)) 0 in
+        let e : 256 - k ≡ suc (256 - (k + 1)) = omega arith in
+        ap (λ (x : ℕ). set (w ++ replicate x 0) k v) e ∙ set-at w 0 z v k (window-length b (length b) (s .own) k)
+        ∙ sym (append-snoc w v z) ∙ ap (λ (l : List ℕ). l ++ z) (sym (window-append b (length b) (s .own) k 1))
+
+    below-256 : (k : ℕ) → k < l₀ → k < 256
+    unfolding l₀
+    below-256 k h = omega (arith, total-high h₀)
+
+    one-more : (k : ℕ) → 1 ≤ k → k < l₀ → Receive.moveAfter (midway k) ≡ midway (k + 1)
+    unfolding Receive.moveBy midway taking
+    one-more k l h = rw (move-number k l h, copy-more k (below-256 k h))
+
+    all-moves : (j k : ℕ) → 1 ≤ k → k + j ≤ l₀ → Receive.moves j (midway k) ≡ midway (k + j)
+    unfolding Receive.moves
+    all-moves zero k l h = ap midway (omega arith)
+    all-moves (suc j) k l h =
+        ap (Receive.moves j) (one-more k l (omega arith)) ∙ all-moves j (k + 1) (omega arith) (omega arith) ∙ ap midway (omega arith)
+
+    module _ (o : List ℕ) (long : leb 256 (length o) ≡ true) where
+      formed : Bool
+      formed = wellFormed h₀ (getD (window b (length b) (s .own) l₀) 1 0)
+
+      copied-formed : wellFormed (header (taking l₀)) (second (taking l₀)) ≡ formed
+      unfolding taking formed
+      copied-formed =
+          let l : 1 ≤ l₀ = unfold l₀ in total-low h₀ in
+          rw (copied-header l₀ l, padded (window b (length b) (s .own) l₀) (256 - l₀) 1)
+
+      publish-number : Receive.publishNumber (taking l₀) o d b ≡ need formed 13 0
+      unfolding Receive.publishNumberOf taking
+      publish-number =
+          let l : 1 ≤ l₀ = unfold l₀ in total-low h₀ in
+          entry-ok _ _ (active l₀ l (omega arith)) ∙ ok 5 long ∙ ok 12 (le-leb l₀ l₀ (omega arith)) ∙ ap (λ (t : Bool). need t 13 0) copied-formed
+
+      publish-by : Receive.publishBy (need formed 13 0) (taking l₀) o d b ≡ receiveOutcome s (receiveBy (need formed 13 0) (s .own) o d b)
+      unfolding Receive.publishBy receiveBy need taking l₀ h₀
+      publish-by =
+          cases formed
+          (λ f. rw (f, take-at (window b (length b) (s .own) l₀) (replicate (256 - l₀) 0) l₀ (window-length b (length b) (s .own) l₀)))
+          (λ f. rw f)
+
+      published : Receive.publishAfter o (midway l₀) ≡ receiveOutcome s (receiveBy (need formed 13 0) (s .own) o d b)
+      unfolding midway
+      published = ap (λ (c : ℕ). Receive.publishBy c (taking l₀) o d b) publish-number ∙ publish-by
+
+      -- a look that is accepted, and what follows it
+      looked : Receive.lookBy 0 s d b ≡ midway 1
+      unfolding Receive.lookBy midway taking marked window l₀ h₀
+      looked =
+          let z : s .own % length b ≡ s .own = mod-eq-of-lt below in
+          rw z
+
+      after-look : Receive.rest o (midway 1) ≡ receiveOutcome s (receiveBy (need formed 13 0) (s .own) o d b)
+      unfolding Receive.rest midway taking
+      after-look =
+          let l : 1 ≤ l₀ = unfold l₀ in total-low h₀ in
+          let z : 1 + (l₀ - 1) ≡ l₀ = omega arith in
+          ap (Receive.publishAfter o) (all-moves (l₀ - 1) 1 (omega arith) (omega arith) ∙ ap midway z) ∙ published
+
+      whole-accepted : Receive.rest o (Receive.lookBy 0 s d b) ≡ receiveOutcome s (receiveBy (need formed 13 0) (s .own) o d b)
+      whole-accepted = ap (Receive.rest o) looked ∙ after-look
+
+-- a look that is refused
+look-refused :
+    (s : State) (o d b : List ℕ) (c : ℕ) → eqb c 0 ≡ false → eqb c 13 ≡ false
+    → Receive.rest o (Receive.lookBy c s d b) ≡ receiveOutcome s (receiveBy (receiveNumber c (s .own) b) (s .own) o d b)
+unfolding Receive.rest Receive.lookBy receiveBy receiveNumber
+look-refused s o d b c z t = rw (z, z, t)
+
+module _ (s : State) (o d b : List ℕ) where
+  -- what the descriptor and the header say, and the number of a whole receive but for 13
+  f : ℕ
+  f = Receive.foundWith (s .own) d (length b) (getD b (s .own) 0)
+
+  taken : ℕ
+  taken = takeNumber (idle (length b) s) (s .own) (length o) d (length b) (getD b (s .own) 0)
+
+  Same : Type 0
+  Same = Receive.whole s o d b ≡ receiveOutcome s (receive (idle (length b) s) (s .own) o d b)
+
+  by-1-to-5 : (c : ℕ) → Receive.wholeNumber s o d b ≡ c → taken ≡ c → eqb c 0 ≡ false → eqb c 13 ≡ false → marked c d ≡ d → Same
+  unfolding Same taken Receive.wholeBy receiveBy receiveNumber
+  by-1-to-5 c w k z t m = rw (w, k, z, z, t, m)
+
+  by-look : Receive.wholeNumber s o d b ≡ 0 → taken ≡ f → Receive.lookNumber s d b ≡ f → eqb f 0 ≡ false → Same
+  unfolding Same taken f Receive.wholeBy
+  by-look w k l z = rw (w, k, l) (look-refused s o d b f z (found-not-13 (length b) (s .own) (status d) (head d) (tail d) (getD b (s .own) 0)))
+
+  by-all :
+      length d ≡ 16 → allowed (length b) ≡ true → idle (length b) s ≡ true → leb 256 (length o) ≡ true → Receive.wholeNumber s o d b ≡ 0
+      → taken ≡ 0 → Receive.lookNumber s d b ≡ 0 → f ≡ 0 → Same
+  unfolding Same taken f Receive.wholeBy receiveNumber formed l₀ h₀
+  by-all t₁ t₂ t₃ t₄ w k l z =
+      let a = found-accepted (length b) (s .own) (status d) (head d) (tail d) (getD b (s .own) 0) z in
+      rw (w, k, l) (whole-accepted s d b t₁ t₂ (idle-same (length b) s t₃) (a .below) o t₄)
+
+-- 'A whole .. receive that 1 to 5 don't refuse equals its steps run one after another'
+pub receive-at-once : (s : State) (o d b : List ℕ) → Receive.whole s o d b ≡ receiveOutcome s (receive (idle (length b) s) (s .own) o d b)
+unfolding Same taken f Receive.wholeNumber Receive.lookNumber takeNumber entry need marked
+receive-at-once s o d b =
+    cases (eqb (length d) 16)
+    (λ t₁. cases (allowed (length b))
+    (λ t₂. cases (idle (length b) s)
+    (λ t₃. cases (leb 256 (length o))
+    (λ t₄. cases (eqb (f s o d b) 0)
+    (λ z.
+    let e : f s o d b ≡ 0 = eqb-true _ 0 z in
+    by-all s o d b (eqb-true (length d) 16 t₁) t₂ t₃ t₄ (rw (t₁, t₂, t₃, t₄)) (rw (t₁, t₂, t₃, t₄) e) (rw (t₁, t₂, t₃) e) e)
+    (λ z. by-look s o d b (rw (t₁, t₂, t₃, t₄)) (rw (t₁, t₂, t₃, t₄)) (rw (t₁, t₂, t₃)) z))
+    (λ t₄. by-1-to-5 s o d b 5 (rw (t₁, t₂, t₃, t₄)) (rw (t₁, t₂, t₃, t₄)) refl refl refl))
+    (λ t₃. by-1-to-5 s o d b 3 (rw (t₁, t₂, t₃)) (rw (t₁, t₂, t₃)) refl refl refl))
+    (λ t₂. by-1-to-5 s o d b 2 (rw (t₁, t₂)) (rw (t₁, t₂)) refl refl refl))
+    (λ t₁. by-1-to-5 s o d b 1 (rw t₁) (rw t₁) refl refl refl)
+
+-- what the code of a whole receive at once says of the steps
+pub receive-method :
+    (s : State) (o d b : List ℕ) (fits : Bool) (r : Ended) (d′ o′ : List ℕ) → fits ≡ idle (length b) s → ended r d′ b o′ ≡ receive fits (s .own) o d b
+    → Receive.whole s o d b ≡ receiveOutcome s (ended r d′ b o′)
+receive-method s o d b fits r d′ o′ f e =
+    receive-at-once s o d b ∙ ap (λ (t : Bool). receiveOutcome s (receive t (s .own) o d b)) (sym f) ∙ ap (receiveOutcome s) (sym e)
+
+-- what 1 to 11 of a whole receive say where they accept
+pub record Taken (fits : Bool) (own output : ℕ) (d : List ℕ) (n h : ℕ) : Type 0 where
+  pub enters : Entered (length d) n
+  pub is-fit : fits ≡ true
+  pub output-long : 256 ≤ output
+  pub below : own < n
+  pub short : totalLength h < n
+
+module _ (fits : Bool) (own output : ℕ) (d : List ℕ) (n h : ℕ) where
+  pub take-not-13 : eqb (takeNumber fits own output d n h) 13 ≡ false
+  unfolding takeNumber entry need
+  take-not-13 =
+      cases (eqb (length d) 16)
+      (λ a. cases (allowed n)
+      (λ b. cases fits
+      (λ c. cases (leb 256 output) (λ e. rw (a, b, c, e) (found-not-13 n own (status d) (head d) (tail d) h)) (λ e. rw (a, b, c, e)))
+      (λ c. rw (a, b, c)))
+      (λ b. rw (a, b)))
+      (λ a. rw a)
+
+  module _ (e : takeNumber fits own output d n h ≡ 0) where
+    rest₁ : ℕ
+    rest₁ = need (leb 256 output) 5 (Receive.foundWith own d n h)
+
+    r₁ : rest₁ ≡ 0
+    unfolding takeNumber rest₁
+    r₁ = entered-rest (length d) n fits rest₁ 0 refl refl refl e
+
+    r₂ : Receive.foundWith own d n h ≡ 0
+    unfolding rest₁
+    r₂ = passed-rest (leb 256 output) 5 (Receive.foundWith own d n h) 0 refl r₁
+
+    pub taken-has : Taken fits own output d n h
+    unfolding takeNumber rest₁ used
+    taken-has =
+        let g : Entered (length d) n = entered (length d) n fits rest₁ 0 refl refl refl e in
+        let a = found-accepted n own (status d) (head d) (tail d) h r₂ in
+        let u : (tail d + n - head d) % n < n = mod-lt (tail d + n - head d) (omega (arith, g .low)) in
+        record {
+          enters = g;
+          is-fit = entered-fits (length d) n fits rest₁ 0 refl refl refl e;
+          output-long = leb-true 256 output (passed (leb 256 output) 5 (Receive.foundWith own d n h) 0 refl r₁);
+          below = a .below;
+          short = omega (arith, a .whole);
+        }
+
+-- a message of at least two dwords, taken apart
+pub window-first-two : (b : List ℕ) (n own l : ℕ) → 2 ≤ l → window b n own l ≡ getD b (own % n) 0 ∷ getD b ((own + 1) % n) 0 ∷ window b n (own + 2) (l - 2)
+unfolding window
+window-first-two b n own l h =
+    let e : l ≡ suc (suc (l - 2)) = omega arith in
+    let f : suc own ≡ own + 1 = omega arith in
+    let g : suc (suc own) ≡ own + 2 = omega arith in
+    ap (window b n own) e ∙ ap (λ (x : ℕ). getD b (own % n) 0 ∷ getD b (x % n) 0 ∷ window b n (suc (suc own)) (l - 2)) f
+    ∙ ap (λ (x : ℕ). getD b (own % n) 0 ∷ getD b ((own + 1) % n) 0 ∷ window b n x (l - 2)) g
+
+-- the two dwords that were judged, and the others, are the message
+pub laid-message :
+    (b : List ℕ) (n own l h s : ℕ) (o : List ℕ) → own < n → 2 ≤ l → h ≡ getD b own 0 → s ≡ getD (window b n own l) 1 0
+    → h ∷ s ∷ window b n (own + 2) (l - 2) ++ drop l o ≡ window b n own l ++ drop l o
+laid-message b n own l h s o below l₂ eh es =
+    let z : getD b (own % n) 0 ≡ getD b own 0 = ap (λ (x : ℕ). getD b x 0) (mod-eq-of-lt below) in
+    let t : s ≡ getD b ((own + 1) % n) 0 = es ∙ window-at b n own l 1 (omega arith) in
+    rw (window-first-two b n own l l₂, z, ← eh, ← t)
+
+-- the three answers of a whole receive at once
+module _ (fits : Bool) (own : ℕ) (o d b : List ℕ) where
+  pub receive-refused :
+      (c : ℕ) → takeNumber fits own (length o) d (length b) (getD b own 0) ≡ c → eqb c 0 ≡ false
+      → receive fits own o d b ≡ record { code = c; len = 0; own = own; desc = marked c d; buf = b; out = o }
+  unfolding receiveNumber receiveBy
+  receive-refused c e z =
+      let t : eqb c 13 ≡ false = ap (λ (x : ℕ). eqb x 13) (sym e) ∙ take-not-13 fits own (length o) d (length b) (getD b own 0) in
+      rw (e, z, z, t)
+
+  module _ (h s l : ℕ) (eh : h ≡ getD b own 0) (el : l ≡ totalLength h) (es : s ≡ getD (window b (length b) own l) 1 0) (e : takeNumber fits own (length o) d (length b) h ≡ 0) where
+    formed-same : wellFormed (getD b own 0) (getD (messageAt own b) 1 0) ≡ wellFormed h s
+    formed-same = rw (es, el, eh)
+
+    taken-same : takeNumber fits own (length o) d (length b) (getD b own 0) ≡ 0
+    taken-same = rw (← eh) e
+
+    pub receive-formed :
+        wellFormed h s ≡ true
+        → receive fits own o d b
+        ≡ record {
+          code = 0;
+          len = l;
+          own = (own + l) % length b;
+          desc = set d HEAD ((own + l) % length b);
+          buf = b;
+          out = window b (length b) own l ++ drop l o;
+        }
+    unfolding receiveNumber receiveBy need
+    receive-formed f = rw (taken-same, formed-same, f, el, eh)
+
+    pub receive-malformed :
+        wellFormed h s ≡ false
+        → receive fits own o d b
+        ≡ record { code = 13; len = 0; own = (own + l) % length b; desc = set d HEAD ((own + l) % length b); buf = b; out = o }
+    unfolding receiveNumber receiveBy need
+    receive-malformed f = rw (taken-same, formed-same, f, el, eh)

@@ -1,0 +1,13 @@
+-- `receiving::take_number` meets its contract: its tests are the chain's, in the same order. Assumes nothing.
+use borrow.Author.Needs.{needs}
+use Rattle.channel.specs.AtOnce.{takeNumber}
+use Rattle.channel.proofs.receiving.take_number.Statement.{statement}
+use Rattle.channel.proofs.receiving.take_number.Tie as tie
+
+returns : tie.Need-returns
+unfolding takeNumber
+returns c = simp (c .entry .ensures, c .before .refuse .ensures, c .before .before .found .ensures)
+
+pub take-number-spec : {M : Type 1} → statement M
+take-number-spec =
+    tie.close (tie.spec (λ c κs. search needs) (λ c κs. search needs) (λ c κs. search needs) returns)
