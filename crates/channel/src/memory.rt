@@ -7,14 +7,14 @@ ghost use Rattle.channel.specs.Ring.{window, stored};
 ghost use Rattle.channel.specs.Numbers.{marked};
 ghost use Rattle.channel.specs.State.{allZero};
 
-pub fn wide(x: u32) -> usize
+pub(crate) fn wide(x: u32) -> usize
     ensures { λ r. ⌜ r ≡ x ⌝ }
 {
     x as usize
 }
 
 // Stores v at i, or nothing where there is no such place.
-pub fn put(s: &mut [u32], i: usize, v: u32)
+pub(crate) fn put(s: &mut [u32], i: usize, v: u32)
     ensures { λ _. ⌜ now (s .exit) ≡ set (now (s .entry)) i v ⌝ }
 {
     if i < s.len() {
@@ -23,7 +23,7 @@ pub fn put(s: &mut [u32], i: usize, v: u32)
 }
 
 // Sets STATUS after 7, 8 and 9.
-pub fn mark(desc: &mut [u32], code: u32)
+pub(crate) fn mark(desc: &mut [u32], code: u32)
     ensures { λ _. ⌜ now (desc .exit) ≡ marked code (now (desc .entry)) ⌝ }
 {
     if code == 7 {
@@ -36,7 +36,7 @@ pub fn mark(desc: &mut [u32], code: u32)
 }
 
 // Whether the dwords are all 0: they are joined by `|` and tested once, which the compiler turns into wide loads.
-pub fn all_zero(s: &[u32]) -> bool
+pub(crate) fn all_zero(s: &[u32]) -> bool
     ensures { λ r. ⌜ r ≡ allZero (now (s .entry)) ⌝ }
 {
     let mut joined: u32 = 0;
@@ -49,7 +49,7 @@ pub fn all_zero(s: &[u32]) -> bool
 }
 
 // Copies src to the front of dst: a straight run, with no test inside.
-pub fn copy_run(dst: &mut [u32], src: &[u32])
+pub(crate) fn copy_run(dst: &mut [u32], src: &[u32])
     requires { ⌜ length (now src) ≤ length (now dst) ⌝ }
     ensures { λ _. ⌜ now (dst .exit) ≡ now (src .entry) ++ drop (length (now (src .entry))) (now (dst .entry)) ⌝ }
 {
@@ -61,7 +61,7 @@ pub fn copy_run(dst: &mut [u32], src: &[u32])
 }
 
 // Stores src in the ring from place `at` on: one run, or two where it goes around the end.
-pub fn store_run(buf: &mut [u32], at: usize, src: &[u32])
+pub(crate) fn store_run(buf: &mut [u32], at: usize, src: &[u32])
     requires { ⌜ (at < length (now buf)) × (length (now src) ≤ length (now buf)) ⌝ }
     ensures { λ _. ⌜ now (buf .exit) ≡ stored (now (buf .entry)) (length (now (buf .entry))) at (now (src .entry)) ⌝ }
 {
@@ -75,7 +75,7 @@ pub fn store_run(buf: &mut [u32], at: usize, src: &[u32])
 }
 
 // Fills dst with the dwords of the ring from place `at` on: one run, or two where they go around the end.
-pub fn load_run(dst: &mut [u32], buf: &[u32], at: usize)
+pub(crate) fn load_run(dst: &mut [u32], buf: &[u32], at: usize)
     requires { ⌜ (at < length (now buf)) × (length (now dst) ≤ length (now buf)) ⌝ }
     ensures { λ _. ⌜ now (dst .exit) ≡ window (now (buf .entry)) (length (now (buf .entry))) at (length (now (dst .entry))) ⌝ }
 {

@@ -5,21 +5,21 @@ ghost use Rattle.channel.specs.Ring.{allowed, used};
 ghost use Rattle.channel.specs.Numbers.{need, entry, sendFound, receiveFound};
 
 // The refusal's number where the test fails, else the rest's.
-pub fn refuse(test: bool, number: u32, rest: u32) -> u32
+pub(crate) fn refuse(test: bool, number: u32, rest: u32) -> u32
     ensures { λ r. ⌜ r ≡ need test number rest ⌝ }
 {
     if test { rest } else { number }
 }
 
 // Whether a buffer may have n dwords.
-pub fn allowed(n: usize) -> bool
+pub(crate) fn allowed(n: usize) -> bool
     ensures { λ r. ⌜ r ≡ allowed n ⌝ }
 {
     (n % 1024 == 0) & (1024 <= n) & (n <= 16384)
 }
 
 // 1, 2 and 3, which every step judges first, with the lengths of the descriptor and the buffer.
-pub fn entry(descriptor: usize, n: usize, fits: bool, rest: u32) -> u32
+pub(crate) fn entry(descriptor: usize, n: usize, fits: bool, rest: u32) -> u32
     ensures { λ r. ⌜ r ≡ entry descriptor n fits rest ⌝ }
 {
     refuse(
@@ -42,7 +42,7 @@ fn used(n: usize, head: usize, tail: usize) -> usize
 }
 
 // What a send's look finds: 6, 7, 8 or 10.
-pub fn send_found(n: usize, own: usize, len: usize, status: usize, head: usize, tail: usize) -> u32
+pub(crate) fn send_found(n: usize, own: usize, len: usize, status: usize, head: usize, tail: usize) -> u32
     ensures { λ r. ⌜ r ≡ sendFound n own len status head tail ⌝ }
 {
     if status != 0 {
@@ -64,7 +64,7 @@ pub fn send_found(n: usize, own: usize, len: usize, status: usize, head: usize, 
 }
 
 // What a receive's look finds: 6, 7, 8, 9 or 11.
-pub fn receive_found(
+pub(crate) fn receive_found(
     n: usize,
     own: usize,
     status: usize,
@@ -97,7 +97,7 @@ pub fn receive_found(
 }
 
 // The offset len dwords past own, around the end of a ring of n.
-pub fn past(own: usize, len: usize, n: usize) -> usize
+pub(crate) fn past(own: usize, len: usize, n: usize) -> usize
     requires { ⌜ (own < n) × (len ≤ n) × (n ≤ 16384) ⌝ }
     ensures { λ r. ⌜ r ≡ (own + len) % n ⌝ }
 {

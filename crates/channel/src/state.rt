@@ -57,14 +57,14 @@ pub struct Ended {
 }
 
 // Whether a state of these fields is idle and fits a buffer of n dwords.
-pub fn fits_idle(n: usize, made: usize, own: usize, len: usize, moved: usize, copy: &[u32]) -> bool
+pub(crate) fn fits_idle(n: usize, made: usize, own: usize, len: usize, moved: usize, copy: &[u32]) -> bool
     ensures { λ r. ⌜ r ≡ idle n (state made own len moved (now (copy .entry))) ⌝ }
 {
     (made == n) & (own < n) & (len == 0) & (moved == 0) & all_zero(copy)
 }
 
 // Whether a state of these fields is an active sender's and fits.
-pub fn fits_sending(
+pub(crate) fn fits_sending(
     n: usize,
     made: usize,
     own: usize,
@@ -85,7 +85,7 @@ pub fn fits_sending(
 }
 
 // Whether a state of these fields is an active receiver's and fits.
-pub fn fits_receiving(
+pub(crate) fn fits_receiving(
     n: usize,
     made: usize,
     own: usize,
