@@ -42,7 +42,14 @@ fn used(n: usize, head: usize, tail: usize) -> usize
 }
 
 // What a send's look finds: 6, 7, 8 or 10.
-pub(crate) fn send_found(n: usize, own: usize, len: usize, status: usize, head: usize, tail: usize) -> u32
+pub(crate) fn send_found(
+    n: usize,
+    own: usize,
+    len: usize,
+    status: usize,
+    head: usize,
+    tail: usize,
+) -> u32
     ensures { λ r. ⌜ r ≡ sendFound n own len status head tail ⌝ }
 {
     if status != 0 {

@@ -57,7 +57,14 @@ pub struct Ended {
 }
 
 // Whether a state of these fields is idle and fits a buffer of n dwords.
-pub(crate) fn fits_idle(n: usize, made: usize, own: usize, len: usize, moved: usize, copy: &[u32]) -> bool
+pub(crate) fn fits_idle(
+    n: usize,
+    made: usize,
+    own: usize,
+    len: usize,
+    moved: usize,
+    copy: &[u32],
+) -> bool
     ensures { λ r. ⌜ r ≡ idle n (state made own len moved (now (copy .entry))) ⌝ }
 {
     (made == n) & (own < n) & (len == 0) & (moved == 0) & all_zero(copy)

@@ -6,4 +6,5 @@ pub mod ReceiveSteps
 pub mod Simulation
 pub mod Facts
 pub mod Theorem
-pub mod Loopback
+pub mod SelfTest
+pub mod Calls

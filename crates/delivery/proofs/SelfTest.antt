@@ -12,8 +12,7 @@ use Rattle.message.proofs.Formed.{message-long, message-short}
 use Rattle.channel.specs.Numbers.{need}
 use Rattle.channel.specs.Ring.{allowed, stored}
 use Rattle.channel.proofs.Chains.{allowed-low, cases, ok}
-use Rattle.delivery.specs.Demand.{received}
-use Rattle.delivery.specs.Loopback.{Loopback, Looped, comesBack, firstReceive, firstSend}
+use Rattle.delivery.specs.Loopback.{ComesBack, Loopback, comesBack, firstReceive, firstSend, loop}
 use Rattle.delivery.specs.Operations.{Seen, plainRun, plainSeen, receiveWhole, run, seen, sendWhole}
 use Rattle.delivery.specs.Plain.{Answer, Plain, notReceiving, notSending}
 use Rattle.delivery.specs.Plain
@@ -74,11 +73,12 @@ module _ (b m o : List ℕ) (a : allowed (length b) ≡ true) where
     second-same : seen (firstReceive d b m o) ≡ plainSeen (plain-receive b m o)
     second-same = cc both
 
-    looped :
+    comes-back :
         (x y : Answer) → plain-send b m ≡ x → plain-receive b m o ≡ y → x .code ≡ need (isMessage m) 4 0
         → y .code ≡ need (leb 256 (length o)) 5 (need (isMessage m) 11 0) → y .len ≡ cond (comesBack m o) (length m) 0
-        → y .out ≡ cond (comesBack m o) (m ++ drop (length m) o) o → Looped d b m o
-    looped x y ex ey c₁ c₂ n t =
+        → y .out ≡ cond (comesBack m o) (m ++ drop (length m) o) o → ComesBack m o (loop d b m o)
+    unfolding loop
+    comes-back x y ex ey c₁ c₂ n t =
         record {
           sent = ap (λ (z : Seen). z .code) first-same ∙ ap (λ (z : Answer). z .code) ex ∙ c₁;
           received = ap (λ (z : Seen). z .code) second-same ∙ ap (λ (z : Answer). z .code) ey ∙ c₂;
@@ -91,8 +91,8 @@ unfolding need
 loopback d b m o e a =
     cases (isMessage m)
     (λ f. cases (leb 256 (length o))
-    (λ l. looped b m o a d e _ _ (sent b m o a f) (came-back b m o a f l) (rw f) (rw (f, l)) (rw (f, l)) (rw (f, l)))
-    (λ l. looped b m o a d e _ _ (sent b m o a f) (short b m o a l) (rw f) (rw l) (rw (f, l)) (rw (f, l))))
+    (λ l. comes-back b m o a d e _ _ (sent b m o a f) (came-back b m o a f l) (rw f) (rw (f, l)) (rw (f, l)) (rw (f, l)))
+    (λ l. comes-back b m o a d e _ _ (sent b m o a f) (short b m o a l) (rw f) (rw l) (rw (f, l)) (rw (f, l))))
     (λ f. cases (leb 256 (length o))
-    (λ l. looped b m o a d e _ _ (not-sent b m o a f) (nothing b m o a f l) (rw f) (rw (f, l)) (rw f) (rw f))
-    (λ l. looped b m o a d e _ _ (not-sent b m o a f) (short b m o a l) (rw f) (rw l) (rw f) (rw f)))
+    (λ l. comes-back b m o a d e _ _ (not-sent b m o a f) (nothing b m o a f l) (rw f) (rw (f, l)) (rw f) (rw f))
+    (λ l. comes-back b m o a d e _ _ (not-sent b m o a f) (short b m o a l) (rw f) (rw l) (rw f) (rw f)))
