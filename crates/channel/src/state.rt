@@ -1,6 +1,6 @@
 // The states of the two sides, when one fits, and what the calls answer.
 ghost use mathlib.Core.Path.{_≡_};
-ghost use Rattle.channel.specs.State.{state, idleAt, ofSender, ofReceiver, idle, activeSend, activeReceive};
+ghost use Rattle.channel.specs.State.{state, zeros, idleAt, ofSender, ofReceiver, idle, activeSend, activeReceive};
 use crate::memory::all_zero;
 use message::dword_at;
 
@@ -111,6 +111,13 @@ pub(crate) fn fits_receiving(
         & (len == message::total_length(dword_at(copy, 0)))
 }
 
+// A copy of all zeros, which an idle state has.
+fn no_copy() -> [u32; 256]
+    ensures { λ r. ⌜ r ≡ zeros ⌝ }
+{
+    [0; 256]
+}
+
 impl Sender {
     // The idle state made for n dwords, at an own offset.
     pub fn idle_at(n: usize, own: usize) -> Self
@@ -121,7 +128,7 @@ impl Sender {
             own: own,
             len: 0,
             moved: 0,
-            copy: [0; 256],
+            copy: no_copy(),
         }
     }
 }
@@ -136,7 +143,7 @@ impl Receiver {
             own: own,
             len: 0,
             moved: 0,
-            copy: [0; 256],
+            copy: no_copy(),
         }
     }
 }

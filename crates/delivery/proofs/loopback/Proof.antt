@@ -14,12 +14,13 @@ returns : tie.Need-returns
 returns c =
     let a = c .before .before .before .before .before .before .before .before .before .before .before .before .before .before .before .before .before .before .before .before .before .before .before .before .before .before .args in
     let start = c .before .before .before .before .before .before .before .before .before .before .before .before .before .before .before .before .before .before .before .open-channel .ensures in
-    let e = loop-calls (now (a .desc)) (now (a .buf)) (now (a .msg)) (now (a .out)) _ _ _ _ _ _ _ _ start (c .before .before .before .before .before .before .before .before .before .before .before .before .send .ensures) (c .before .before .before .before .receive .ensures) in
-    (e,
-    λ z.
-    let o = sym (ap (λ (y : Opening). y .code) start) ∙ z in
-    subst (ComesBack (now (a .msg)) (now (a .out))) (sym e)
-    (loopback (now (a .desc)) (now (a .buf)) (now (a .msg)) (now (a .out)) (opens-sixteen (now (a .desc)) (now (a .buf)) o) (opens-allowed (now (a .desc)) (now (a .buf)) o)))
+    let e = loop-calls (now (a .desc)) (now (a .buf)) (now (a .msg)) (now (a .out)) _ _ _ _ _ _ _ _ start (c .before .before .before .before .before .before .before .before .before .before .before .before .send .ensures) (c .before .before .before .before .receive .ensures) in (
+      e,
+      λ z.
+          let o = sym (ap (λ (y : Opening). y .code) start) ∙ z in
+          subst (ComesBack (now (a .msg)) (now (a .out))) (sym e)
+          (loopback (now (a .desc)) (now (a .buf)) (now (a .msg)) (now (a .out)) (opens-sixteen (now (a .desc)) (now (a .buf)) o) (opens-allowed (now (a .desc)) (now (a .buf)) o)),
+    )
 
 pub loopback-spec : {M : Type 1} → statement M
 loopback-spec = tie.close (tie.spec (λ c κs. search needs) (λ c κs. search needs) (λ c κs. search needs) (λ c. search needs) (λ c. search needs) (λ c. search needs) returns)

@@ -1,7 +1,10 @@
 -- `numbers::receive_found` meets its contract: at each `return` the tests that led there say which number it is. Assumes nothing.
+use Prim.Native.Nat.{ℕ}
+use mathlib.Core.Path.{_≡_}
 use borrow.Author.Needs.{needs}
-use borrow.Author.Tests.{ne-eqb, eq-eqb, lt-ltb, le-ltb, le-leb, lt-leb}
+use borrow.Author.Tests.{ne-eqb, lt-ltb, le-ltb, le-leb, lt-leb}
 use Rattle.channel.specs.Numbers.{need, found, receiveFound}
+use Rattle.channel.proofs.Steps.{found-none}
 use Rattle.channel.proofs.numbers.receive_found.Statement.{statement}
 use Rattle.channel.proofs.numbers.receive_found.Tie as tie
 
@@ -22,48 +25,28 @@ unfolding need found receiveFound
 returns-4 c =
     simp (c .before .before .before .if1 .left, lt-ltb _ _ (c .before .before .if2 .left), lt-ltb _ _ (c .before .if3 .left), ne-eqb _ _ (c .if4 .taken))
 
+-- past the first four tests none of 6, 7 and 8 is found
+none :
+    (c : tie.Else4) (rest : ℕ) → let a = c .before .before .before .before .args in
+    found (a .n) (a .own) (a .head) (a .status) (a .head) (a .tail) rest ≡ rest
+none c rest =
+    found-none _ _ _ _ _ _ rest (c .before .before .before .if1 .left) (c .before .before .if2 .left) (c .before .if3 .left) (c .if4 .left)
+
 returns-5 : tie.Need-returns-5
-unfolding need found receiveFound
-returns-5 c =
-    let d = c .before .before in
-    simp (
-      d .before .before .before .if1 .left,
-      lt-ltb _ _ (d .before .before .if2 .left),
-      lt-ltb _ _ (d .before .if3 .left),
-      eq-eqb _ _ (d .if4 .left),
-      ← c .before .used .ensures,
-      c .if5 .taken,
-    )
+unfolding need receiveFound
+returns-5 c = simp (none (c .before .before), ← c .before .used .ensures, c .if5 .taken)
 
 returns-6 : tie.Need-returns-6
-unfolding need found receiveFound
+unfolding need receiveFound
 returns-6 c =
-    let d = c .before .before .before .before in
-    simp (
-      d .before .before .before .if1 .left,
-      lt-ltb _ _ (d .before .before .if2 .left),
-      lt-ltb _ _ (d .before .if3 .left),
-      eq-eqb _ _ (d .if4 .left),
-      ← c .before .before .before .used .ensures,
-      ne-eqb _ _ (c .before .before .if5 .left),
-      ← c .before .total-length .ensures,
-      lt-leb _ _ (c .if6 .taken),
-    )
+    let d = c .before .before in
+    simp (none (d .before .before), ← d .before .used .ensures, ne-eqb _ _ (d .if5 .left), ← c .before .total-length .ensures, lt-leb _ _ (c .if6 .taken))
 
 returns-7 : tie.Need-returns-7
-unfolding need found receiveFound
+unfolding need receiveFound
 returns-7 c =
-    let d = c .before .before .before .before in
-    simp (
-      d .before .before .before .if1 .left,
-      lt-ltb _ _ (d .before .before .if2 .left),
-      lt-ltb _ _ (d .before .if3 .left),
-      eq-eqb _ _ (d .if4 .left),
-      ← c .before .before .before .used .ensures,
-      ne-eqb _ _ (c .before .before .if5 .left),
-      ← c .before .total-length .ensures,
-      le-leb _ _ (c .if6 .left),
-    )
+    let d = c .before .before in
+    simp (none (d .before .before), ← d .before .used .ensures, ne-eqb _ _ (d .if5 .left), ← c .before .total-length .ensures, le-leb _ _ (c .if6 .left))
 
 pub receive-found-spec : {M : Type 1} → statement M
 receive-found-spec =

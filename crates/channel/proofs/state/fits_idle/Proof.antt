@@ -1,4 +1,4 @@
--- `state::fits_idle` meets its contract. Assumes nothing.
+-- `state::fits_idle` meets its contract: its tests are the definition's, in the same order. Assumes nothing.
 use borrow.Author.Needs.{needs}
 use Rattle.channel.specs.State.{idle}
 use Rattle.channel.proofs.state.fits_idle.Statement.{statement}

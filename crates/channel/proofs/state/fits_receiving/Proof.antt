@@ -1,4 +1,4 @@
--- `state::fits_receiving` meets its contract. Assumes nothing.
+-- `state::fits_receiving` meets its contract: its tests are the definition's, in the same order. Assumes nothing.
 use borrow.Author.Needs.{needs}
 use Rattle.channel.specs.State.{activeReceive}
 use Rattle.channel.proofs.state.fits_receiving.Statement.{statement}

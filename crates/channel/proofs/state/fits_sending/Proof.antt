@@ -1,4 +1,4 @@
--- `state::fits_sending` meets its contract. Assumes nothing.
+-- `state::fits_sending` meets its contract: its tests are the definition's, in the same order. Assumes nothing.
 use borrow.Author.Needs.{needs}
 use Rattle.channel.specs.State.{activeSend}
 use Rattle.channel.proofs.state.fits_sending.Statement.{statement}

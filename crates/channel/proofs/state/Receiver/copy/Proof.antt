@@ -1,7 +1,7 @@
 -- `state::Receiver::copy` meets its contract: a number other than 0 leaves all; after 0 the state is active and fits, so the place lies in
 -- the buffer. Assumes nothing.
 use Prim.Native.Nat.{_<_}
-use mathlib.Core.Path.{_≡_, refl, sym, _∙_}
+use mathlib.Core.Path.{refl, sym, _∙_}
 use native.Mathlib.Omega.{arith}
 use native.Mathlib.Nat.{mod-lt}
 use lib.ListN.{length}
@@ -28,6 +28,7 @@ more c =
     let e = entered-rest _ _ _ _ 0 refl refl refl (sym (c .before .go-on-number .ensures) ∙ c .if1 .left) in
     ltb-true _ _ (passed _ 12 0 0 refl (sym (c .before .before .refuse .ensures) ∙ e))
 
+-- the place of the dword lies in the buffer
 within : (c : tie.After-past) → let a = c .before .before .before .before .before .before .before .args in c .past .result < length (now (a .buf))
 within c = rw (c .past .ensures) (mod-lt _ (omega (arith, fits (c .before))))
 
@@ -40,6 +41,7 @@ mul-next c = omega (arith, fits (c .before), within c)
 shared-slice-read-next : tie.Need-shared-slice-read-next
 shared-slice-read-next c = within (c .before)
 
+-- the place that it is copied to is one of 256
 in-copy : tie.Need-element-write-next
 in-copy c = omega (arith, fits (c .before .before), more (c .before .before))
 

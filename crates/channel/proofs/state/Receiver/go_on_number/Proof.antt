@@ -1,4 +1,4 @@
--- `state::Receiver::go_on_number` meets its contract. Assumes nothing.
+-- `state::Receiver::go_on_number` meets its contract: the fields that it tests are the state's. Assumes nothing.
 use borrow.Author.Needs.{needs}
 use Rattle.channel.specs.State.{ofReceiver}
 use Rattle.channel.proofs.state.Receiver.go_on_number.Statement.{statement}

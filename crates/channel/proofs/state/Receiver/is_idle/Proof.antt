@@ -1,4 +1,4 @@
--- `Receiver::is_idle` meets its contract: it tests the state's own fields. Assumes nothing.
+-- `state::Receiver::is_idle` meets its contract: the fields that it tests are the state's. Assumes nothing.
 use borrow.Author.Needs.{needs}
 use Rattle.channel.specs.State.{ofReceiver}
 use Rattle.channel.proofs.state.Receiver.is_idle.Statement.{statement}

@@ -1,7 +1,7 @@
 -- `state::Receiver::publish` meets its contract: its number says whether HEAD moves, and whether the message is laid. Where HEAD moves the
 -- state is active and fits, and the output has room. Assumes nothing.
 use Prim.Native.Nat.{_≤_, _<_}
-use mathlib.Core.Path.{_≡_, sym, ap, _∙_}
+use mathlib.Core.Path.{_≡_, ap, _∙_}
 use mathlib.Core.Bool.{cond}
 use mathlib.Core.Logic.{⊎-elim}
 use mathlib.Core.List.{_++_}
@@ -24,7 +24,7 @@ returns c =
     let n = c .before .publish-number in
     simp (← n .ensures, moves-head (n .result) _ (c .if1 .taken))
 
--- what the number says where it is 0 or 13
+-- what the number says where it is 0 or 13: the state is active and fits, and the output has room
 fits : (c : tie.Else1) → let a = c .before .before .before .before .before .args in Going (a .self) (length (now (a .buf)))
 fits c =
     let n = c .before .publish-number in
@@ -35,6 +35,7 @@ room c =
     let n = c .before .publish-number in
     publish-room _ _ _ _ _ (n .ensures) (moves-head (n .result) _ (c .if1 .left))
 
+-- an array that a struct parameter holds has all its elements
 full : (c : tie.Start) → length (c .args .self .copy) ≡ 256
 full c = search needs
 
@@ -53,6 +54,7 @@ copy-run-requires c κs =
     let d = c .before .before .before .before .before .before in
     simp length-take (omega (arith, fits d, room d))
 
+-- what the two ways leave of L and the output: the message is laid where the number is 0
 laid : (c : tie.Joined2) → let a = c .before .before .before .before .before .before .before .args in
     let code = c .before .before .before .publish-number .result in
     (c .if2 .laid ≡ cond (eqb code 0) (a .self .len) 0)
@@ -69,6 +71,7 @@ laid c =
     (λ w. (simp (w .2, ne-eqb _ _ (w .0 .left)), simp (w .1, ne-eqb _ _ (w .0 .left)), ap length (w .1)))
     (c .if2 .came)
 
+-- the new HEAD is an offset of the buffer
 within : (c : tie.After-past) → c .past .result < length (now (c .before .before .before .before .before .before .args .buf))
 within c = rw (c .past .ensures) (mod-lt _ (omega (arith, fits (c .before))))
 

@@ -1,12 +1,12 @@
--- `state::Sender::idle_at` meets its contract. Assumes nothing.
+-- `Sender::idle_at` meets its contract. Assumes nothing.
 use borrow.Author.Needs.{needs}
-use Rattle.channel.specs.State.{zeros, ofSender}
+use Rattle.channel.specs.State.{ofSender}
 use Rattle.channel.proofs.state.Sender.idle_at.Statement.{statement}
 use Rattle.channel.proofs.state.Sender.idle_at.Tie as tie
 
 returns : tie.Need-returns
-unfolding zeros ofSender
-returns c = search needs
+unfolding ofSender
+returns c = simp (c .no-copy .ensures)
 
 pub idle-at-spec : {M : Type 1} → statement M
-idle-at-spec = tie.close (tie.spec returns)
+idle-at-spec = tie.close (tie.spec (λ c κs. search needs) returns)
