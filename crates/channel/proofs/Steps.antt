@@ -8,14 +8,15 @@ use native.Mathlib.Omega.{arith}
 use native.Mathlib.Nat.{sub-zero, mod-lt, mod-eq-of-lt, mod-eq-sub-mod, add-mod-right}
 use lib.ListN.{length, take, drop}
 use lib.Seq.{length-take-le}
-use lib.Dec.{eqb}
-use borrow.Author.Tests.{leb-true, lt-ltb, eq-eqb, ne-eqb}
+use lib.Dec.{eqb, ltb}
+use borrow.Author.Tests.{eqb-true, leb-true, ltb-true, lt-ltb, eq-eqb, ne-eqb}
+use Rattle.message.proofs.Tests.{and-l, and-r}
 use Rattle.channel.specs.Ring.{used}
 use Rattle.channel.specs.State.{ofReceiver, activeReceive}
 use Rattle.channel.specs.Numbers.{need, entry, found}
 use Rattle.channel.specs.Receive.{publishNumberOf}
 use Rattle.channel.specs.declared.state.Receiver.{Receiver}
-use Rattle.channel.proofs.Chains.{passed, entered, entered-fits, entered-rest, receive-active}
+use Rattle.channel.proofs.Chains.{cases, passed, passed-rest, entered, entered-fits, entered-rest, receive-active}
 
 module _ (n hd tl : ℕ) where
   -- the dwords in use where TAIL is not below HEAD
@@ -41,11 +42,40 @@ module _ (n hd tl : ℕ) where
 pub past-round : (n own k : ℕ) → own < n → k ≤ n → n ≤ own + k → (own + k) % n ≡ own + k - n
 past-round n own k l h e = rw (mod-eq-sub-mod e) (mod-eq-of-lt (omega arith))
 
--- a look that finds none of 6, 7 and 8
-pub found-none :
-    (n own word status hd tl rest : ℕ) → status ≡ 0 → hd < n → tl < n → own ≡ word → found n own word status hd tl rest ≡ rest
-unfolding need found
-found-none n own word status hd tl rest s h t o = simp (s, lt-ltb hd n h, lt-ltb tl n t, eq-eqb own word o)
+-- what a look has that finds none of 6, 7 and 8
+pub record NoneFound (n own word status hd tl : ℕ) : Type 0 where
+  pub good : status ≡ 0
+  pub head : hd < n
+  pub tail : tl < n
+  pub same : own ≡ word
+
+module _ (n own word status hd tl : ℕ) where
+  pub none-found : found n own word status hd tl 0 ≡ 0 → NoneFound n own word status hd tl
+  unfolding found
+  none-found e =
+      let e₁ = passed-rest (eqb status 0) 6 _ 0 refl e in
+      let t = passed (ltb hd n && ltb tl n) 7 _ 0 refl e₁ in
+      record {
+        good = eqb-true status 0 (passed (eqb status 0) 6 _ 0 refl e);
+        head = ltb-true hd n (and-l (ltb hd n) (ltb tl n) t);
+        tail = ltb-true tl n (and-r (ltb hd n) (ltb tl n) t);
+        same = eqb-true own word (passed (eqb own word) 8 0 0 refl (passed-rest (ltb hd n && ltb tl n) 7 _ 0 refl e₁));
+      }
+
+  -- then the rest of the chain is the answer
+  pub found-none : NoneFound n own word status hd tl → (rest : ℕ) → found n own word status hd tl rest ≡ rest
+  unfolding need found
+  found-none f rest = simp (f .good, lt-ltb hd n (f .head), lt-ltb tl n (f .tail), eq-eqb own word (f .same))
+
+  -- and where one of them is found, it is, whatever the rest
+  pub found-one : (rest c : ℕ) → found n own word status hd tl 0 ≡ c → (c ≡ 0 → ⊥) → found n own word status hd tl rest ≡ c
+  unfolding need found
+  found-one rest c e z =
+      cases (eqb status 0)
+      (λ a. cases (ltb hd n && ltb tl n)
+      (λ b. cases (eqb own word) (λ x. absurd (z (sym (rw (a, b, x) at e)))) (λ x. rw (a, b, x) (rw (a, b, x) at e)))
+      (λ b. rw (a, b) (rw (a, b) at e)))
+      (λ a. rw a (rw a at e))
 
 -- what a receiver has whose step is refused by none of 1, 2 and 3
 pub record Going (s : Receiver) (n : ℕ) : Type 0 where

@@ -2,7 +2,7 @@
 ghost use mathlib.Core.Path.{_≡_};
 ghost use Prim.Native.Nat.{_+_, _%_, _≤_, _<_};
 ghost use Rattle.channel.specs.Ring.{allowed, used};
-ghost use Rattle.channel.specs.Numbers.{need, entry, sendFound, receiveFound};
+ghost use Rattle.channel.specs.Numbers.{need, entry, found, sendFound, receiveFound};
 
 // The refusal's number where the test fails, else the rest's.
 pub(crate) fn refuse(test: bool, number: u32, rest: u32) -> u32
@@ -41,7 +41,26 @@ fn used(n: usize, head: usize, tail: usize) -> usize
     }
 }
 
-// What a send's look finds: 6, 7, 8 or 10.
+// What every look finds in the descriptor: 6, 7 or 8, or 0 for none of them. `word` is the descriptor's word that is to be the own offset.
+fn found(n: usize, own: usize, word: usize, status: usize, head: usize, tail: usize) -> u32
+    ensures { λ r. ⌜ r ≡ found n own word status head tail 0 ⌝ }
+{
+    if status != 0 {
+        return 6;
+    }
+    if n <= head {
+        return 7;
+    }
+    if n <= tail {
+        return 7;
+    }
+    if own != word {
+        return 8;
+    }
+    0
+}
+
+// What a send's look finds: these, or 10.
 pub(crate) fn send_found(
     n: usize,
     own: usize,
@@ -52,17 +71,9 @@ pub(crate) fn send_found(
 ) -> u32
     ensures { λ r. ⌜ r ≡ sendFound n own len status head tail ⌝ }
 {
-    if status != 0 {
-        return 6;
-    }
-    if n <= head {
-        return 7;
-    }
-    if n <= tail {
-        return 7;
-    }
-    if own != tail {
-        return 8;
+    let code = found(n, own, tail, status, head, tail);
+    if code != 0 {
+        return code;
     }
     if n - 1 - used(n, head, tail) < len {
         return 10;
@@ -70,7 +81,7 @@ pub(crate) fn send_found(
     0
 }
 
-// What a receive's look finds: 6, 7, 8, 9 or 11.
+// What a receive's look finds: these, or 9 or 11.
 pub(crate) fn receive_found(
     n: usize,
     own: usize,
@@ -81,17 +92,9 @@ pub(crate) fn receive_found(
 ) -> u32
     ensures { λ r. ⌜ r ≡ receiveFound n own status head tail header ⌝ }
 {
-    if status != 0 {
-        return 6;
-    }
-    if n <= head {
-        return 7;
-    }
-    if n <= tail {
-        return 7;
-    }
-    if own != head {
-        return 8;
+    let code = found(n, own, head, status, head, tail);
+    if code != 0 {
+        return code;
     }
     let pending = used(n, head, tail);
     if pending == 0 {
