@@ -122,19 +122,30 @@ pub open-sixteen : (d n : ℕ) → openNumber d n ≡ 0 → d ≡ 16
 unfolding openNumber
 open-sixteen d n e = eqb-true d 16 (passed (eqb d 16) 1 (need (allowed n) 2 0) 0 refl e)
 
--- what a step that goes on has, of either side: it enters, its state fits, and its own test holds
-pub record GoesOn (d n : ℕ) (fits test : Bool) : Type 0 where
-  pub enters : Entered d n
-  pub is-fit : fits ≡ true
-  pub is-test : test ≡ true
+-- what a step that goes on has, of either side: none of 1, 2 and 3 refuses it
+pub record Going (n : ℕ) (s : State) : Type 0 where
+  pub low : 1024 ≤ n
+  pub high : n ≤ 16384
+  pub own : s .own < n
+  pub short : s .len ≤ 256
+  pub within : s .moved ≤ s .len
 
-pub goes-on : (d n : ℕ) (fits test : Bool) → entry d n fits (need test 12 0) ≡ 0 → GoesOn d n fits test
-goes-on d n fits test e =
-    record {
-      enters = entered d n fits (need test 12 0) 0 refl refl refl e;
-      is-fit = entered-fits d n fits (need test 12 0) 0 refl refl refl e;
-      is-test = passed test 12 0 0 refl (entered-rest d n fits (need test 12 0) 0 refl refl refl e);
-    }
+module _ (d n : ℕ) (s : State) (r x : ℕ) (n₁ : eqb 1 x ≡ false) (n₂ : eqb 2 x ≡ false) (n₃ : eqb 3 x ≡ false) where
+  going : (fits : Bool) → (fits ≡ true → Active n s) → entry d n fits r ≡ x → Going n s
+  going fits f e =
+      let i = entered d n fits r x n₁ n₂ n₃ e in
+      let a = f (entered-fits d n fits r x n₁ n₂ n₃ e) in
+      record { low = i .low; high = i .high; own = a .own; short = a .short; within = a .within }
+
+  pub going-send : entry d n (activeSend n s) r ≡ x → Going n s
+  going-send = going (activeSend n s) (send-active n s)
+
+  pub going-receive : entry d n (activeReceive n s) r ≡ x → Going n s
+  going-receive = going (activeReceive n s) (receive-active n s)
+
+-- and its own test holds where it is accepted
+pub going-test : (d n : ℕ) (fits test : Bool) → entry d n fits (need test 12 0) ≡ 0 → test ≡ true
+going-test d n fits test e = passed test 12 0 0 refl (entered-rest d n fits (need test 12 0) 0 refl refl refl e)
 
 -- an offset of the ring is below N
 pub past-lt : (own len n r : ℕ) → 1024 ≤ n → r ≡ (own + len) % n → r < n

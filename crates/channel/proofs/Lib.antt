@@ -1,5 +1,6 @@
 pub mod Chains
 pub mod Ring
+pub mod Found
 pub mod Fits
 pub mod SendAtOnce
 pub mod ReceiveAtOnce

@@ -2,7 +2,7 @@
 use borrow.Author.Needs.{needs}
 use borrow.Author.Tests.{ne-eqb, lt-ltb, le-ltb}
 use Rattle.channel.specs.Numbers.{need, found}
-use Rattle.channel.proofs.Steps.{found-none}
+use Rattle.channel.proofs.Found.{found-none}
 use Rattle.channel.proofs.numbers.found.Statement.{statement}
 use Rattle.channel.proofs.numbers.found.Tie as tie
 

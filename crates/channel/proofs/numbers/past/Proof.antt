@@ -2,7 +2,7 @@
 use mathlib.Core.Path.{sym}
 use native.Mathlib.Nat.{mod-eq-of-lt}
 use borrow.Author.Needs.{needs}
-use Rattle.channel.proofs.Steps.{past-round}
+use Rattle.channel.proofs.Found.{past-round}
 use Rattle.channel.proofs.numbers.past.Statement.{statement}
 use Rattle.channel.proofs.numbers.past.Tie as tie
 

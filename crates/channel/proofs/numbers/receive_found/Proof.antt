@@ -4,7 +4,7 @@ use mathlib.Core.Path.{_≡_, sym, _∙_}
 use borrow.Author.Needs.{needs}
 use borrow.Author.Tests.{eq-eqb, ne-eqb, le-leb, lt-leb}
 use Rattle.channel.specs.Numbers.{need, receiveFound}
-use Rattle.channel.proofs.Steps.{NoneFound, none-found, found-none, found-one}
+use Rattle.channel.proofs.Found.{NoneFound, none-found, found-none, found-one}
 use Rattle.channel.proofs.numbers.receive_found.Statement.{statement}
 use Rattle.channel.proofs.numbers.receive_found.Tie as tie
 
@@ -14,7 +14,7 @@ returns c = sym (found-one _ _ _ _ _ _ _ _ (sym (c .before .found .ensures)) (c 
 
 -- what is left past 6, 7 and 8
 none : (c : tie.Else1) → let a = c .before .before .args in NoneFound (a .n) (a .own) (a .head) (a .status) (a .head) (a .tail)
-none c = none-found _ _ _ _ _ _ (sym (c .before .found .ensures) ∙ c .if1 .left)
+none c = none-found _ _ _ _ _ _ 0 (sym (c .before .found .ensures) ∙ c .if1 .left)
 
 used-requires : tie.Need-used-requires
 used-requires c κs = (none c .head, none c .tail)

@@ -5,7 +5,7 @@ use borrow.Author.Needs.{needs}
 use borrow.Author.Tests.{le-leb, lt-leb}
 use Rattle.channel.specs.Ring.{free}
 use Rattle.channel.specs.Numbers.{need, sendFound}
-use Rattle.channel.proofs.Steps.{used-lt, NoneFound, none-found, found-none, found-one}
+use Rattle.channel.proofs.Found.{used-lt, NoneFound, none-found, found-none, found-one}
 use Rattle.channel.proofs.numbers.send_found.Statement.{statement}
 use Rattle.channel.proofs.numbers.send_found.Tie as tie
 
@@ -15,7 +15,7 @@ returns c = sym (found-one _ _ _ _ _ _ _ _ (sym (c .before .found .ensures)) (c 
 
 -- what is left past 6, 7 and 8
 none : (c : tie.Else1) → let a = c .before .before .args in NoneFound (a .n) (a .own) (a .tail) (a .status) (a .head) (a .tail)
-none c = none-found _ _ _ _ _ _ (sym (c .before .found .ensures) ∙ c .if1 .left)
+none c = none-found _ _ _ _ _ _ 0 (sym (c .before .found .ensures) ∙ c .if1 .left)
 
 sub-if2 : tie.Need-sub-if2
 sub-if2 c = omega (arith, none c)

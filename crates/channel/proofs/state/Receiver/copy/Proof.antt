@@ -11,7 +11,7 @@ use borrow.Author.Tests.{ne-eqb, ltb-true}
 use Rattle.channel.specs.State.{ofReceiver}
 use Rattle.channel.specs.Receive.{moveNumber, moveBy}
 use Rattle.channel.proofs.Chains.{passed, entered-rest}
-use Rattle.channel.proofs.Steps.{Going, going}
+use Rattle.channel.proofs.Chains.{Going, going-receive}
 use Rattle.channel.proofs.state.Receiver.copy.Statement.{statement}
 use Rattle.channel.proofs.state.Receiver.copy.Tie as tie
 
@@ -20,8 +20,8 @@ unfolding moveNumber moveBy ofReceiver
 returns c = simp (← c .before .before .refuse .ensures, ← c .before .go-on-number .ensures, ne-eqb _ _ (c .if1 .taken))
 
 -- what the number 0 says: the state is active and fits, and there is a dword more
-fits : (c : tie.Else1) → let a = c .before .before .before .before .before .before .args in Going (a .self) (length (now (a .buf)))
-fits c = going _ _ _ _ 0 refl refl refl (sym (c .before .go-on-number .ensures) ∙ c .if1 .left)
+fits : (c : tie.Else1) → let a = c .before .before .before .before .before .before .args in Going (length (now (a .buf))) (ofReceiver (a .self))
+fits c = going-receive _ _ _ _ 0 refl refl refl (sym (c .before .go-on-number .ensures) ∙ c .if1 .left)
 
 more : (c : tie.Else1) → let s = c .before .before .before .before .before .before .args .self in s .moved < s .len
 more c =
@@ -33,6 +33,7 @@ within : (c : tie.After-past) → let a = c .before .before .before .before .bef
 within c = rw (c .past .ensures) (mod-lt _ (omega (arith, fits (c .before))))
 
 past-requires : tie.Need-past-requires
+unfolding ofReceiver
 past-requires c κs = omega (arith, fits c)
 
 mul-next : tie.Need-mul-next
@@ -43,6 +44,7 @@ shared-slice-read-next c = within (c .before)
 
 -- the place that it is copied to is one of 256
 in-copy : tie.Need-element-write-next
+unfolding ofReceiver
 in-copy c = omega (arith, fits (c .before .before), more (c .before .before))
 
 returns-2 : tie.Need-returns-2

@@ -14,7 +14,8 @@ use borrow.Author.Needs.{needs}
 use borrow.Author.Tests.{ne-eqb}
 use Rattle.channel.specs.State.{ofReceiver}
 use Rattle.channel.specs.Receive.{publishBy}
-use Rattle.channel.proofs.Steps.{Going, moves-head, publish-going, publish-room, laid-front}
+use Rattle.channel.proofs.Chains.{Going}
+use Rattle.channel.proofs.Steps.{moves-head, publish-going, publish-room, laid-front}
 use Rattle.channel.proofs.state.Receiver.publish.Statement.{statement}
 use Rattle.channel.proofs.state.Receiver.publish.Tie as tie
 
@@ -25,7 +26,7 @@ returns c =
     simp (← n .ensures, moves-head (n .result) _ (c .if1 .taken))
 
 -- what the number says where it is 0 or 13: the state is active and fits, and the output has room
-fits : (c : tie.Else1) → let a = c .before .before .before .before .before .args in Going (a .self) (length (now (a .buf)))
+fits : (c : tie.Else1) → let a = c .before .before .before .before .before .args in Going (length (now (a .buf))) (ofReceiver (a .self))
 fits c =
     let n = c .before .publish-number in
     publish-going _ _ _ _ _ (n .ensures) (moves-head (n .result) _ (c .if1 .left))
@@ -41,15 +42,18 @@ full c = search needs
 
 -- the message is a part of the copy
 part : (c : tie.Else1) → let s = c .before .before .before .before .before .args .self in s .len ≤ length (s .copy)
+unfolding ofReceiver
 part c = omega (arith, fits c, full (c .before .before .before .before .before))
 
 past-requires : tie.Need-past-requires
+unfolding ofReceiver
 past-requires c κs = omega (arith, fits c)
 
 part-copy-run-end : tie.Need-part-copy-run-end
 part-copy-run-end c = part (c .before .before .before .before .before)
 
 copy-run-requires : tie.Need-copy-run-requires
+unfolding ofReceiver
 copy-run-requires c κs =
     let d = c .before .before .before .before .before .before in
     simp length-take (omega (arith, fits d, room d))

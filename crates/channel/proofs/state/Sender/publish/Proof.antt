@@ -1,15 +1,15 @@
 -- `Sender::publish` meets its contract: a number other than 0 leaves all; after 0 the state is active and fits, so that TAIL fits a dword.
 -- Assumes nothing.
-use mathlib.Core.Path.{_≡_, sym, _∙_}
+use mathlib.Core.Path.{_≡_, refl, sym, _∙_}
 use native.Mathlib.Omega.{arith}
 use lib.ListN.{length}
 use lib.Dec.{leb}
 use denote.Ref.{now}
 use borrow.Author.Needs.{needs}
 use borrow.Author.Tests.{ne-eqb}
-use Rattle.channel.specs.State.{ofSender, activeSend}
+use Rattle.channel.specs.State.{ofSender}
 use Rattle.channel.specs.Send
-use Rattle.channel.proofs.Chains.{GoesOn, goes-on, Active, send-active, past-lt}
+use Rattle.channel.proofs.Chains.{Going, going-send, past-lt}
 use Rattle.channel.proofs.state.Sender.publish.Statement.{statement}
 use Rattle.channel.proofs.state.Sender.publish.Tie as tie
 
@@ -18,19 +18,16 @@ unfolding Send.publishBy Send.publishNumber ofSender
 returns c = simp (← c .before .go-on-number .ensures, ne-eqb _ _ (c .if1 .taken))
 
 -- what a step that goes on has
-has : (c : tie.Else1) → let a = c .before .before .before .before .before .args in GoesOn (length (now (a .desc))) (length (now (a .buf))) (activeSend (length (now (a .buf))) (ofSender (a .self))) (leb (a .self .len) (a .self .moved))
-has c = goes-on _ _ _ _ (sym (c .before .go-on-number .ensures) ∙ c .if1 .left)
-
-fits : (c : tie.Else1) → let a = c .before .before .before .before .before .args in Active (length (now (a .buf))) (ofSender (a .self))
-fits c = send-active _ _ (has c .is-fit)
+fits : (c : tie.Else1) → let a = c .before .before .before .before .before .args in Going (length (now (a .buf))) (ofSender (a .self))
+fits c = going-send _ _ _ _ 0 refl refl refl (sym (c .before .go-on-number .ensures) ∙ c .if1 .left)
 
 past-requires : tie.Need-past-requires
 unfolding ofSender
-past-requires c κs = (fits c .own, omega (arith, has c .enters .low, fits c .short), has c .enters .high)
+past-requires c κs = (fits c .own, omega (arith, fits c .low, fits c .short), fits c .high)
 
 cast-put : tie.Need-cast-put
 cast-put c =
-    let h = has (c .before .before) .enters in
+    let h = fits (c .before .before) in
     omega (arith, past-lt _ _ _ _ (h .low) (c .before .past .ensures), h .high)
 
 returns-2 : tie.Need-returns-2
