@@ -3,6 +3,7 @@ pub mod Ring
 pub mod Found
 pub mod Fits
 pub mod SendAtOnce
+pub mod Taken
 pub mod ReceiveAtOnce
 pub mod Steps
 pub mod Runs

@@ -1,26 +1,26 @@
 -- A whole send at once is its steps one after another: the law by which the code of a whole send meets its definition. Assumes nothing.
 use Prim.Native.Nat.{ℕ, zero, suc, _+_, _-_, _%_, _≤_, _<_}
 use mathlib.Core.Path.{_≡_, refl, sym, ap, _∙_}
-use mathlib.Core.Bool.{Bool, true, false, _&&_, cond}
+use mathlib.Core.Bool.{Bool, true, false, cond}
 use mathlib.Core.List.{List, [], _++_}
 use native.Mathlib.Omega.{arith}
 use native.Mathlib.Numerals.{add-one}
 use lib.ListN.{length, getD, take, set, replicate, List·getD-append}
 use lib.Seq.{take-all}
 use lib.Dec.{eqb, leb, ltb}
-use borrow.Author.Tests.{eqb-true, eq-eqb, le-leb, lt-ltb, leb-true, ltb-true}
+use borrow.Author.Tests.{eqb-true, eq-eqb, le-leb, lt-ltb, leb-true}
 use Rattle.message.specs.Header.{isMessage}
 use Rattle.message.proofs.Formed.{message-formed, message-length, message-long, message-short}
-use Rattle.message.proofs.Tests.{and-r}
 use Rattle.channel.specs.AtOnce.{AtOnce, ended, send, sendBy}
-use Rattle.channel.specs.declared.state.Ended.{Ended}
 use Rattle.channel.specs.Numbers.{entry, found, marked, need, sendFound}
 use Rattle.channel.specs.Outcome.{Outcome}
 use Rattle.channel.specs.Ring.{TAIL, free, head, status, stored, tail, used}
 use Rattle.channel.specs.State.{State, activeSend, idle, idleAt}
 use Rattle.channel.specs.Send
+use Rattle.channel.specs.declared.state.Ended.{Ended}
 use Rattle.channel.proofs.Chains.{Entered, cases, entered, entered-fits, entered-rest, passed, passed-rest, tested}
 use Rattle.channel.proofs.Fits.{idle-same}
+use Rattle.channel.proofs.Found.{found-rest, none-found}
 use Rattle.channel.proofs.Ring.{stored-length, stored-take}
 
 -- a whole send that is accepted, as an outcome with the state s before it
@@ -49,29 +49,26 @@ module _ (fits : Bool) (own : ℕ) (m d : List ℕ) (n : ℕ) (e : Send.numberAt
   unfolding rest
   e₂ = passed-rest (isMessage m) 4 (sendFound n own (length m) (status d) (head d) (tail d)) 0 refl e₁
 
-  e₃ : need (ltb (head d) n && ltb (tail d) n) 7 (need (eqb own (tail d)) 8 (need (leb (length m) (free n (head d) (tail d))) 10 0)) ≡ 0
-  unfolding sendFound found
-  e₃ = passed-rest (eqb (status d) 0) 6 _ 0 refl e₂
+  fits-free : ℕ
+  fits-free = need (leb (length m) (free n (head d) (tail d))) 10 0
 
-  e₄ : need (eqb own (tail d)) 8 (need (leb (length m) (free n (head d) (tail d))) 10 0) ≡ 0
-  e₄ = passed-rest (ltb (head d) n && ltb (tail d) n) 7 _ 0 refl e₃
-
-  e₅ : need (leb (length m) (free n (head d) (tail d))) 10 0 ≡ 0
-  e₅ = passed-rest (eqb own (tail d)) 8 _ 0 refl e₄
+  e₃ : found n own (tail d) (status d) (head d) (tail d) fits-free ≡ 0
+  unfolding sendFound fits-free
+  e₃ = e₂
 
   pub accepted : Accepted fits own m d n
-  unfolding Send.numberAt rest free
+  unfolding Send.numberAt rest free fits-free
   accepted =
-      let t : own ≡ tail d = eqb-true own (tail d) (passed (eqb own (tail d)) 8 _ 0 refl e₄) in
-      let l : tail d < n = ltb-true (tail d) n (and-r (ltb (head d) n) (ltb (tail d) n) (passed (ltb (head d) n && ltb (tail d) n) 7 _ 0 refl e₃)) in
-      let r : length m ≤ n - 1 - used n (head d) (tail d) = leb-true (length m) (n - 1 - used n (head d) (tail d)) (passed (leb (length m) (free n (head d) (tail d))) 10 0 0 refl e₅) in
+      let f = none-found n own (tail d) (status d) (head d) (tail d) fits-free e₃ in
+      let z : fits-free ≡ 0 = found-rest n own (tail d) (status d) (head d) (tail d) fits-free e₃ in
+      let r : length m ≤ n - 1 - used n (head d) (tail d) = leb-true (length m) (n - 1 - used n (head d) (tail d)) (passed (leb (length m) (free n (head d) (tail d))) 10 0 0 refl z) in
       record {
         enters = entered (length d) n fits rest 0 refl refl refl e;
         is-fit = entered-fits (length d) n fits rest 0 refl refl refl e;
         is-message = passed (isMessage m) 4 (sendFound n own (length m) (status d) (head d) (tail d)) 0 refl e₁;
-        own-tail = t;
-        below = omega arith;
-        room = omega arith;
+        own-tail = f .same;
+        below = omega (arith, f .same, f .tail);
+        room = omega (arith, f .tail);
       }
 
 module _ (s : State) (m d b : List ℕ) where

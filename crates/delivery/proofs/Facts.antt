@@ -3,7 +3,7 @@
 use mathlib.Core.Path.{_≡_, refl, sym, ap, _∙_}
 use mathlib.Core.Logic.{_≢_}
 use mathlib.Core.Bool.{true, false}
-use mathlib.Core.List.{List, [], _∷_, _++_, map, append-nil}
+use mathlib.Core.List.{List, [], _∷_, _++_, append-nil}
 use Prim.Native.Nat.{ℕ, _+_, _-_, _%_, _≤_, _<_}
 use native.Mathlib.Omega.{arith}
 use native.Mathlib.Numerals.{add-one}
@@ -11,77 +11,19 @@ use borrow.Author.Tests.{leb-true, le-leb, eqb-false}
 use lib.ListN.{length, getD, take, drop, set}
 use lib.Seq.{take-all, take-append-seam, getD-set-other}
 use lib.Dec.{leb, eqb}
+use Rattle.message.specs.Fields.{holds}
 use Rattle.message.specs.Header.{isMessage}
 use Rattle.message.proofs.Formed.{message-long}
 use Rattle.channel.specs.Numbers.{need}
 use Rattle.channel.specs.Ring.{stored}
 use Rattle.channel.proofs.Chains.{cases, ok}
 use Rattle.channel.proofs.Ring.{apart, stored-other, stored-take}
-use Rattle.delivery.specs.Demand.{Call, Result, Unreleased, answers, endedBy, held, publishedBy, receivedBy, result, wholes}
-use Rattle.delivery.specs.Operations.{Op, plainAnswer, plainEnd, plainRun, plainSeen, receiveLook, receiveMove, receivePublish, receiveWhole, sendLook, sendMove, sendPublish, sendWhole}
-use Rattle.delivery.specs.Plain.{Answer, Plain, Receiving, Sending, first, notReceiving, notSending, receiving, sending}
+use Rattle.delivery.specs.Operations.{Op, plainAnswer, receiveLook, receiveMove, receivePublish, receiveWhole, sendLook, sendMove, sendPublish, sendWhole}
+use Rattle.delivery.specs.Plain.{Plain, Receiving, Sending, first, notReceiving, notSending, receiving, sending}
 use Rattle.delivery.specs.Plain
 use Rattle.delivery.proofs.Invariant.{Inv, bad, empty-receiving, n-low, plain}
+use Rattle.delivery.proofs.RanWhole.{StepFacts, no-facts, one-run, same-run}
 use Rattle.delivery.proofs.Wholes.{receive-whole-midcall, receive-whole-none, receive-whole-ok, receive-whole-short, refusal, roomNumber, send-whole-midcall, send-whole-ok, send-whole-refused}
-
--- what a send mid-call has stored
-abbrev pub done : Sending → List ℕ
-done notSending = []
-done (sending k m) = take k m
-
--- c is the message of a send that is mid-call
-abbrev pub HoldsMessage : List ℕ → Sending → Type 0
-HoldsMessage c notSending = Unit {0}
-HoldsMessage c (sending k m) = c ≡ m
-
--- the channel on which the ended calls were run whole, with buffer z
-abbrev pub serialOf : Plain → List ℕ → Plain
-serialOf p z = plain (p .n) z (p .queue) (p .P) (p .R) notSending notReceiving
-
--- its buffer: what a send mid-call has stored is all that it lacks
-abbrev pub Lacks : Plain → List ℕ → Type 0
-Lacks p z = p .buf ≡ stored z (p .n) (p .P) (done (p .send))
-
-pub record RanWhole (p : Plain) (z : List ℕ) (x : Answer) (cs : List Call) : Type 0 where
-  pub z′ : List ℕ
-  pub lin : Lacks (x .next) z′
-  pub to : plainEnd (serialOf p z) (wholes cs) ≡ serialOf (x .next) z′
-  pub gave : map result (plainRun (serialOf p z) (wholes cs)) ≡ answers cs
-
-pub record StepFacts (p : Plain) (o : Op) (x : Answer) : Type 0 where
-  pub flow : (c : List ℕ) → HoldsMessage c (p .send) → p .queue ++ publishedBy c o (plainSeen x) ≡ receivedBy o (plainSeen x) ++ x .next .queue
-  pub holds : (c : List ℕ) → HoldsMessage c (p .send) → HoldsMessage (held c o (plainSeen x)) (x .next .send)
-  pub keeps : (j : ℕ) → Unreleased p j → getD (x .next .buf) j 0 ≡ getD (p .buf) j 0
-  pub ran : (c : List ℕ) → HoldsMessage c (p .send) → (e : List ℕ) → length e ≡ 256 → (z : List ℕ) → Lacks p z → RanWhole p z x (endedBy e c o (plainSeen x))
-
--- nothing ended, nothing changed for the calls run whole
-same-run : (p : Plain) (z : List ℕ) (x : Answer) → serialOf p z ≡ serialOf (x .next) z → Lacks (x .next) z → RanWhole p z x []
-unfolding plainEnd plainRun
-same-run p z x e l = record { z′ = z; lin = l; to = e; gave = refl }
-
--- one call ended: w, answered g
-one-run : (p : Plain) (z z′ : List ℕ) (x y : Answer) (w : Op) (g : Result) → plainAnswer (serialOf p z) w ≡ y → y .next ≡ serialOf (x .next) z′ → result (plainSeen y) ≡ g → Lacks (x .next) z′ → RanWhole p z x (record { op = w; answer = g } ∷ [])
-unfolding plainEnd plainRun
-one-run p z z′ x y w g e f h l =
-    record {
-      z′ = z′;
-      lin = l;
-      to = ap (λ (u : Answer). u .next) e ∙ f;
-      gave = ap (λ (u : Answer). result (plainSeen u) ∷ []) e ∙ ap (λ (u : Result). u ∷ []) h;
-    }
-
--- a refusal that ends no call
-no-facts :
-    (p : Plain) (o : Op) (c : ℕ) (w : List ℕ)
-    → ((k : List ℕ) → publishedBy k o (plainSeen (refusal c w p)) ≡ []) → receivedBy o (plainSeen (refusal c w p)) ≡ [] → ((k : List ℕ) → held k o (plainSeen (refusal c w p)) ≡ k)
-    → ((e k : List ℕ) → endedBy e k o (plainSeen (refusal c w p)) ≡ []) → StepFacts p o (refusal c w p)
-no-facts p o c w s l k e =
-    record {
-      flow = λ c h. rw (s c, l) (append-nil (p .queue));
-      holds = λ c h. rw (k c) h;
-      keeps = λ j h. refl;
-      ran = λ c h d i z l. rw (e d c) (same-run p z (refusal _ w p) refl l);
-    }
 
 module _ (n : ℕ) (b : List ℕ) (q : List (List ℕ)) (P R : ℕ) where
   -- ---- a send's look

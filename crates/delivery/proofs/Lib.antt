@@ -3,7 +3,9 @@ pub mod Invariant
 pub mod Wholes
 pub mod SendSteps
 pub mod ReceiveSteps
+pub mod WholeReceive
 pub mod Simulation
+pub mod RanWhole
 pub mod Facts
 pub mod Theorem
 pub mod SelfTest

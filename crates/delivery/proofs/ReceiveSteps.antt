@@ -1,9 +1,9 @@
--- Each step of a receive, and a whole receive, answers as the plain channel does, and keeps the invariant. Assumes nothing.
+-- Each step of a receive answers as the plain channel does, and keeps the invariant. Assumes nothing.
 use mathlib.Core.Path.{_≡_, refl, sym, ap, _∙_}
 use mathlib.Core.Logic.{_≢_}
 use mathlib.Core.Bool.{Bool, true, false}
 use mathlib.Core.List.{List, [], _∷_, _++_}
-use Prim.Native.Nat.{ℕ, zero, suc, _+_, _-_, _%_, _≤_, _<_}
+use Prim.Native.Nat.{ℕ, suc, _+_, _-_, _%_, _≤_, _<_}
 use native.Mathlib.Nat.{mod-add-mod}
 use native.Mathlib.Omega.{arith}
 use native.Mathlib.Numerals.{add-one}
@@ -13,7 +13,6 @@ use lib.Seq.{take-suc, take-all, getD-take, length-take-le, set-at, append-snoc,
 use lib.Dec.{leb, eqb}
 use Rattle.message.specs.Header.{isMessage, totalLength, wellFormed}
 use Rattle.message.proofs.Formed.{message-formed, message-length, message-long, message-short}
-use Rattle.channel.specs.AtOnce.{receive}
 use Rattle.channel.specs.Numbers.{marked, need, receiveFound}
 use Rattle.channel.specs.Outcome.{Outcome}
 use Rattle.channel.specs.Ring.{window}
@@ -24,7 +23,6 @@ use Rattle.channel.proofs.Fits.{busy-active-receive, busy-idle, idle-active-rec
 use Rattle.channel.proofs.Ring.{window-append, window-at, window-length}
 use Rattle.delivery.specs.Plain.{Answer, Plain, Receiving, Sending, descriptor, first, notReceiving, notSending, receiving, sending}
 use Rattle.delivery.specs.Plain
-use Rattle.delivery.proofs.Facts.{done}
 use Rattle.delivery.proofs.Invariant.{Inv, InvSend, bad, below-is, empty-receiving, entry-ok, found-receive, own-receive, plain, receiveState, receiverOf, senderOf, used-eq}
 use Rattle.delivery.proofs.Queue.{flat}
 
@@ -63,10 +61,10 @@ module _ (n : ℕ) (b : List ℕ) (P R : ℕ) (s : Sending) where
 
   -- ---- look
 
-  fits-idle : (q : List (List ℕ)) → Inv (plain n b q P R s notReceiving) → idle (length b) (receiveState n R (first q) notReceiving) ≡ true
+  pub fits-idle : (q : List (List ℕ)) → Inv (plain n b q P R s notReceiving) → idle (length b) (receiveState n R (first q) notReceiving) ≡ true
   fits-idle q g = rw (g .size) (idle-idle n (R % n) (own-receive _ g))
 
-  fits-not : (q : List (List ℕ)) (k : ℕ) → Inv (plain n b q P R s (receiving k)) → idle (length b) (receiveState n R (first q) (receiving k)) ≡ false
+  pub fits-not : (q : List (List ℕ)) (k : ℕ) → Inv (plain n b q P R s (receiving k)) → idle (length b) (receiveState n R (first q) (receiving k)) ≡ false
   fits-not q k g =
       rw (g .size) (busy-idle n (R % n) (own-receive _ g) (length (first q)) k _ (omega (arith, message-long (first q) (g .receive .is-message))))
 
@@ -259,52 +257,3 @@ module _ (p : Plain) (g : Inv p) where
 
   pub pub-sim : (o : List ℕ) → ReceiveSim p (Receive.publish (receiverOf p) o (descriptor p) (p .buf)) (Plain.receivePublish p o)
   pub-sim o = sim-pub (p .n) (p .buf) (p .P) (p .R) (p .send) (p .queue) (p .receive) o g
-
--- ---- a whole receive
-
-pub moves-sim : (k : ℕ) (x : Answer) → Inv (x .next) → ReceiveSim (x .next) (Receive.moves k (asReceiver x)) (Plain.receiveMoves k x)
-unfolding Receive.moves Plain.receiveMoves
-moves-sim zero x g = record { same = refl; other = refl; good = g }
-moves-sim (suc k) x g =
-    let h : ReceiveSim (x .next) _ (Plain.receiveMove (x .next)) = move-sim (x .next) g in
-    let i : ReceiveSim (Plain.receiveMove (x .next) .next) _ (Plain.receiveMoves k (Plain.receiveMove (x .next))) = moves-sim k (Plain.receiveMove (x .next)) (h .good) in
-    record { same = ap (Receive.moves k) (h .same) ∙ i .same; other = i .other ∙ h .other; good = i .good }
-
-look-len : (p : Plain) → eqb (Plain.receiveLook p .code) 0 ≡ true → receiverOf (Plain.receiveLook p .next) .len ≡ length (first (p .queue))
-unfolding Plain.receiveLookBy
-look-len p e = rw e
-
-whole-from :
-    (p : Plain) (l : ℕ) (o : List ℕ) (a : Outcome) (x : Answer) → ReceiveSim p a x → (eqb (x .code) 0 ≡ true → receiverOf (x .next) .len ≡ l)
-    → ReceiveSim p (Receive.rest o a) (Plain.receiveRest l o x)
-unfolding Receive.rest Plain.receiveRest
-whole-from p l o a x f e =
-    let w : ReceiveSim (x .next) (Receive.moves (l - 1) (asReceiver x)) (Plain.receiveMoves (l - 1) x) = moves-sim (l - 1) x (f .good) in
-    let y : Plain = Plain.receiveMoves (l - 1) x .next in
-    let v : ReceiveSim y (Receive.publish (receiverOf y) o (descriptor y) (y .buf)) (Plain.receivePublish y o) = pub-sim y (w .good) o in
-    rw (f .same)
-    (cases (eqb (x .code) 0)
-    (λ t. rw t
-    (record {
-      same = ap (λ (i : ℕ). Receive.publishAfter o (Receive.moves (i - 1) (asReceiver x))) (e t) ∙ ap (Receive.publishAfter o) (w .same) ∙ v .same;
-      other = v .other ∙ w .other ∙ f .other;
-      good = v .good;
-    }))
-    (λ t. rw t (record { same = refl; other = f .other; good = f .good })))
-
-whole-code : (p : Plain) → Inv p → (o : List ℕ) → Receive.wholeNumber (receiverOf p) o (descriptor p) (p .buf) ≡ Plain.receiveWholeNumber p o
-unfolding Receive.wholeNumber Plain.receiveWholeNumber
-whole-code p g o = go (p .receive) g
-  where
-    go : (r : Receiving) → Inv (plain (p .n) (p .buf) (p .queue) (p .P) (p .R) (p .send) r)
-        → Receive.wholeNumber (receiveState (p .n) (p .R) (first (p .queue)) r) o (descriptor (plain (p .n) (p .buf) (p .queue) (p .P) (p .R) (p .send) r)) (p .buf) ≡ Plain.receiveWholeNumber (plain (p .n) (p .buf) (p .queue) (p .P) (p .R) (p .send) r) o
-    go notReceiving h = entry-ok _ h _ _ ∙ ok 3 (fits-idle (p .n) (p .buf) (p .P) (p .R) (p .send) (p .queue) h)
-    go (receiving k) h = entry-ok _ h _ _ ∙ bad _ (fits-not (p .n) (p .buf) (p .P) (p .R) (p .send) (p .queue) k h)
-
-whole-by : (p : Plain) → Inv p → (o : List ℕ) (c : ℕ) → ReceiveSim p (Receive.wholeBy c (receiverOf p) o (descriptor p) (p .buf)) (Plain.receiveWholeBy c p o)
-unfolding Receive.wholeBy Plain.receiveWholeBy
-whole-by p g o c =
-    cases (eqb c 0) (λ e. rw e (whole-from p (length (first (p .queue))) o _ _ (look-sim p g) (look-len p))) (λ e. rw e (record { same = refl; other = refl; good = g }))
-
-pub whole-sim : (p : Plain) → Inv p → (o : List ℕ) → ReceiveSim p (Receive.whole (receiverOf p) o (descriptor p) (p .buf)) (Plain.receiveWhole p o)
-whole-sim p g o = rw (whole-code p g o) (whole-by p g o (Plain.receiveWholeNumber p o))

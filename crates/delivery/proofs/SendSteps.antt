@@ -13,7 +13,6 @@ use lib.Seq.{getD-set-same, take-suc, take-all}
 use lib.Dec.{leb, eqb}
 use Rattle.message.specs.Header.{isMessage, totalLength}
 use Rattle.message.proofs.Formed.{message-formed, message-length, message-long, message-short}
-use Rattle.channel.specs.AtOnce.{receive}
 use Rattle.channel.specs.Numbers.{marked, need, sendFound}
 use Rattle.channel.specs.Outcome.{Outcome}
 use Rattle.channel.specs.Ring.{free, head, tail, window}
@@ -24,7 +23,6 @@ use Rattle.channel.proofs.Fits.{busy-active-send, busy-idle, idle-active-send, 
 use Rattle.channel.proofs.Ring.{apart, window-append, window-set}
 use Rattle.delivery.specs.Plain.{Answer, Plain, Receiving, Sending, descriptor, first, notReceiving, notSending, receiving, sending}
 use Rattle.delivery.specs.Plain
-use Rattle.delivery.proofs.Facts.{done}
 use Rattle.delivery.proofs.Invariant.{AllMessages, Inv, InvReceive, bad, below-is, empty-receiving, entry-ok, found-send, n-low, own-send, plain, receiveState, receiverOf, sendState, senderOf, used-eq}
 use Rattle.delivery.proofs.Queue.{flat, flat-snoc}
 

@@ -7,7 +7,6 @@ use native.Mathlib.Nat.{zero-mod}
 use native.Mathlib.Omega.{arith}
 use borrow.Author.Tests.{eq-eqb}
 use lib.ListN.{length}
-use Rattle.channel.specs.AtOnce.{receive}
 use Rattle.channel.specs.Numbers.{need}
 use Rattle.channel.specs.Opening.{openBy, openNumber, opening}
 use Rattle.channel.specs.Outcome.{Outcome}
@@ -20,6 +19,7 @@ use Rattle.delivery.proofs.Queue.{flat}
 use Rattle.delivery.proofs.ReceiveSteps.{ReceiveSim}
 use Rattle.delivery.proofs.SendSteps.{SendSim}
 use Rattle.delivery.proofs.ReceiveSteps
+use Rattle.delivery.proofs.WholeReceive
 use Rattle.delivery.proofs.SendSteps
 
 pub record Sim (p : Plain) (a : Outcome) (y : Channel) (x : Answer) : Type 0 where
@@ -51,7 +51,7 @@ step-sim p g (sendWhole m) = by-s p _ _ (SendSteps.whole-sim p g m)
 step-sim p g receiveLook = by-r p _ _ (ReceiveSteps.look-sim p g)
 step-sim p g receiveMove = by-r p _ _ (ReceiveSteps.move-sim p g)
 step-sim p g (receivePublish o) = by-r p _ _ (ReceiveSteps.pub-sim p g o)
-step-sim p g (receiveWhole o) = by-r p _ _ (ReceiveSteps.whole-sim p g o)
+step-sim p g (receiveWhole o) = by-r p _ _ (WholeReceive.whole-sim p g o)
 
 pub run-sim : (p : Plain) → Inv p → (list : List Op) → run (channelOf p) list ≡ plainRun p list
 unfolding run plainRun

@@ -22,9 +22,10 @@ use Rattle.delivery.specs.Demand.{Call, Demand3, Serial, StoresAt, Unrel
 use Rattle.delivery.specs.Operations.{Channel, Op, Seen, after, end, plainAnswer, plainEnd, plainRun, plainSeen, receiveLook, receiveMove, receivePublish, receiveWhole, run, sendLook, sendMove, sendPublish, sendWhole}
 use Rattle.delivery.specs.Plain.{Answer, Plain, Receiving, Sending, descriptor, fresh, notSending, sending}
 use Rattle.delivery.specs.Plain
-use Rattle.delivery.proofs.Facts.{HoldsMessage, Lacks, RanWhole, StepFacts, facts, serialOf}
+use Rattle.delivery.proofs.Facts.{facts}
 use Rattle.delivery.proofs.Invariant.{AllMessages, Inv, channelOf, plain, sendState, senderOf, used-eq}
 use Rattle.delivery.proofs.Queue.{flat}
+use Rattle.delivery.proofs.RanWhole.{HoldsMessage, Lacks, RanWhole, StepFacts, serialOf}
 use Rattle.delivery.proofs.SendSteps.{SendSim, asSender}
 use Rattle.delivery.proofs.Simulation.{begin-eq, end-good, end-sim, fresh-good, open-code, run-sim, step-sim}
 use Rattle.delivery.proofs.Wholes.{send-moves}

@@ -11,7 +11,7 @@ use Rattle.message.specs.Header.{wellFormed}
 use Rattle.message.proofs.Formed.{well-formed}
 use Rattle.channel.specs.AtOnce.{takeNumber}
 use Rattle.channel.proofs.Chains.{past-lt}
-use Rattle.channel.proofs.ReceiveAtOnce.{Taken, taken-has, total-low, total-high, laid-message, receive-refused, receive-formed, receive-malformed}
+use Rattle.channel.proofs.Taken.{Taken, taken-has, total-low, total-high, laid-message, receive-refused, receive-formed, receive-malformed}
 use Rattle.channel.proofs.receiving.whole_receive.Statement.{statement}
 use Rattle.channel.proofs.receiving.whole_receive.Tie as tie
 
