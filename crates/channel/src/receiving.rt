@@ -28,22 +28,36 @@ use crate::state::fits_idle;
 use crate::state::fits_receiving;
 use message::dword_at;
 
-// What the descriptor and a header that was read at an own head say.
-fn found(own: usize, desc: &[u32], n: usize, header: u32) -> u32
-    ensures { λ r. ⌜ r ≡ Receive.foundWith own (now (desc .entry)) n header ⌝ }
+// What a look answers: the number, and the header that it judged.
+pub(crate) struct Seen {
+    pub code: u32,
+    pub header: u32,
+}
+
+// What the descriptor says, and the header at an own head, read after it: TAIL that covers a message is published after the message.
+fn found(own: usize, desc: &[u32], buf: &[u32]) -> Seen
+    ensures { λ r. ⌜ (r .header ≡ getD (now (buf .entry)) own 0) × (r .code ≡ Receive.foundWith own (now (desc .entry)) (length (now (buf .entry))) (r .header)) ⌝ }
 {
     let status = wide(dword_at(desc, 2));
     let head = wide(dword_at(desc, 0));
     let tail = wide(dword_at(desc, 1));
-    receive_found(n, own, status, head, tail, header)
+    let header = dword_at(buf, own);
+    Seen {
+        code: receive_found(buf.len(), own, status, head, tail, header),
+        header: header,
+    }
 }
 
-// The numbers 1 to 11 of a whole receive.
-fn take_number(fits: bool, own: usize, output: usize, desc: &[u32], n: usize, header: u32) -> u32
-    ensures { λ r. ⌜ r ≡ takeNumber fits own output (now (desc .entry)) n header ⌝ }
+// The numbers 1 to 11 of a whole receive, and the header that they judge.
+fn take_number(fits: bool, own: usize, output: usize, desc: &[u32], buf: &[u32]) -> Seen
+    ensures { λ r. ⌜ (r .header ≡ getD (now (buf .entry)) own 0) × (r .code ≡ takeNumber fits own output (now (desc .entry)) (length (now (buf .entry))) (r .header)) ⌝ }
 {
-    let rest = refuse(256 <= output, 5, found(own, desc, n, header));
-    entry(desc.len(), n, fits, rest)
+    let seen = found(own, desc, buf);
+    let rest = refuse(256 <= output, 5, seen.code);
+    Seen {
+        code: entry(desc.len(), buf.len(), fits, rest),
+        header: seen.header,
+    }
 }
 
 // The second dword of the message of len dwords that starts at an own head, or 0 where it has none.
@@ -81,8 +95,8 @@ pub fn whole_receive(
     ensures { λ r. ⌜ ended r (now (desc .exit)) (now (buf .entry)) (now (out .exit)) ≡ receive fits own (now (out .entry)) (now (desc .entry)) (now (buf .entry)) ⌝ }
 {
     let n = buf.len();
-    let header = dword_at(buf, own);
-    let code = take_number(fits, own, out.len(), &desc[..], n, header);
+    let seen = take_number(fits, own, out.len(), &desc[..], buf);
+    let code = seen.code;
     if code != 0 {
         mark(desc, code);
         return Ended {
@@ -91,6 +105,7 @@ pub fn whole_receive(
             own: own,
         };
     }
+    let header = seen.header;
     let len = message::total_length(header);
     let next = past(own, len, n);
     let second = second_dword(buf, own, len);
@@ -134,9 +149,8 @@ impl Receiver {
         ensures { λ r. ⌜ looked r (now (desc .exit)) (now (buf .entry)) ≡ Receive.look (ofReceiver self) (now (desc .entry)) (now (buf .entry)) ⌝ }
     {
         let n = buf.len();
-        let header = dword_at(buf, self.own);
-        let rest = found(self.own, &desc[..], n, header);
-        let code = entry(desc.len(), n, self.is_idle(n), rest);
+        let seen = found(self.own, &desc[..], buf);
+        let code = entry(desc.len(), n, self.is_idle(n), seen.code);
         if code != 0 {
             mark(desc, code);
             return Looked {
@@ -144,6 +158,7 @@ impl Receiver {
                 next: self,
             };
         }
+        let header = seen.header;
         let mut copy = [0u32; 256];
         copy[0] = header;
         Looked {

@@ -17,14 +17,14 @@ use Rattle.channel.proofs.receiving.whole_receive.Tie as tie
 
 returns : tie.Need-returns
 returns c =
-    let a = c .before .before .before .before .before .before .before .before .before .before .before .args in
+    let a = c .before .before .before .before .before .before .before .before .before .before .args in
     let t = c .before .before .before .before .before .take-number in
-    let e = ap (takeNumber (a .fits) (a .own) (length (now (a .out))) (now (a .desc)) (length (now (a .buf)))) (sym (c .before .before .before .before .before .before .before .dword-at .ensures)) ∙ sym (t .ensures) in
-    rw (receive-refused (a .fits) (a .own) (now (a .out)) (now (a .desc)) (now (a .buf)) (t .result) e (ne-eqb _ _ (c .before .before .before .before .if1 .taken)), c .before .before .mark .ensures)
+    let e = ap (takeNumber (a .fits) (a .own) (length (now (a .out))) (now (a .desc)) (length (now (a .buf)))) (sym (t .ensures .0)) ∙ sym (t .ensures .1) in
+    rw (receive-refused (a .fits) (a .own) (now (a .out)) (now (a .desc)) (now (a .buf)) (t .result .code) e (ne-eqb _ _ (c .before .before .before .before .if1 .taken)), c .before .before .mark .ensures)
 
 -- what an accepted look has
-has : (c : tie.Else1) → let a = c .before .before .before .before .before .before .before .args in Taken (a .fits) (a .own) (length (now (a .out))) (now (a .desc)) (length (now (a .buf))) (c .before .before .before .dword-at .result)
-has c = taken-has _ _ _ _ _ _ (sym (c .before .take-number .ensures) ∙ c .if1 .left)
+has : (c : tie.Else1) → let a = c .before .before .before .before .before .before .args in Taken (a .fits) (a .own) (length (now (a .out))) (now (a .desc)) (length (now (a .buf))) (c .before .take-number .result .header)
+has c = taken-has _ _ _ _ _ _ (sym (c .before .take-number .ensures .1) ∙ c .if1 .left)
 
 past-requires : tie.Need-past-requires
 past-requires c κs =
@@ -53,11 +53,11 @@ cast-put c =
 
 returns-2 : tie.Need-returns-2
 returns-2 c =
-    let a = c .before .before .before .before .before .before .before .before .before .before .before .before .before .before .before .before .before .before .before .before .args in
-    let eh = c .before .before .before .before .before .before .before .before .before .before .before .before .before .before .before .before .dword-at .ensures in
+    let a = c .before .before .before .before .before .before .before .before .before .before .before .before .before .before .before .before .before .before .before .args in
+    let eh = c .before .before .before .before .before .before .before .before .before .before .before .before .before .before .take-number .ensures .0 in
     let el = c .before .before .before .before .before .before .before .before .before .before .before .before .total-length .ensures in
     let es = c .before .before .before .before .before .before .before .before .before .before .second-dword .ensures in
-    let e = sym (c .before .before .before .before .before .before .before .before .before .before .before .before .before .before .take-number .ensures) ∙ c .before .before .before .before .before .before .before .before .before .before .before .before .before .if1 .left in
+    let e = sym (c .before .before .before .before .before .before .before .before .before .before .before .before .before .before .take-number .ensures .1) ∙ c .before .before .before .before .before .before .before .before .before .before .before .before .before .if1 .left in
     let f = sym (c .before .before .before .before .before .before .before .before .before .well-formed .ensures) ∙ c .before .before .before .before .before .before .before .before .if2 .taken in
     let m = laid-message (now (a .buf)) (length (now (a .buf))) (a .own) _ _ _ (now (a .out)) (has (c .before .before .before .before .before .before .before .before .before .before .before .before .before) .below) (long (c .before .before .before .before .before .before .before .before)) eh es in
     rw (receive-formed (a .fits) (a .own) (now (a .out)) (now (a .desc)) (now (a .buf)) _ _ _ eh el es e f, c .before .before .put .ensures, c .before .before .before .before .before .before .before .before .before .before .before .past .ensures, c .before .before .before .before .before .before .lay-message .ensures, m)
@@ -69,11 +69,11 @@ cast-put-2 c =
 
 returns-3 : tie.Need-returns-3
 returns-3 c =
-    let a = c .before .before .before .before .before .before .before .before .before .before .before .before .before .before .before .before .args in
-    let eh = c .before .before .before .before .before .before .before .before .before .before .before .before .dword-at .ensures in
+    let a = c .before .before .before .before .before .before .before .before .before .before .before .before .before .before .before .args in
+    let eh = c .before .before .before .before .before .before .before .before .before .before .take-number .ensures .0 in
     let el = c .before .before .before .before .before .before .before .before .total-length .ensures in
     let es = c .before .before .before .before .before .before .second-dword .ensures in
-    let e = sym (c .before .before .before .before .before .before .before .before .before .before .take-number .ensures) ∙ c .before .before .before .before .before .before .before .before .before .if1 .left in
+    let e = sym (c .before .before .before .before .before .before .before .before .before .before .take-number .ensures .1) ∙ c .before .before .before .before .before .before .before .before .before .if1 .left in
     let f = sym (c .before .before .before .before .before .well-formed .ensures) ∙ c .before .before .before .before .if2 .left in
     rw (receive-malformed (a .fits) (a .own) (now (a .out)) (now (a .desc)) (now (a .buf)) _ _ _ eh el es e f, c .before .before .put2 .ensures, c .before .before .before .before .before .before .before .past .ensures)
 
@@ -81,7 +81,6 @@ pub whole-receive-spec : {M : Type 1} → statement M
 whole-receive-spec =
     tie.close
     (tie.spec
-    (λ c κs. search needs)
     (λ c κs. search needs)
     (λ c κs. search needs)
     (λ c. search needs)

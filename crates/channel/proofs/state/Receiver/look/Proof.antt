@@ -13,8 +13,8 @@ returns c =
     let n = c .before .before .before .before .before in
     simp (
       c .before .before .mark .ensures,
-      ← n .before .before .before .before .dword-at .ensures,
-      ← n .before .before .found .ensures,
+      ← n .before .before .found .ensures .0,
+      ← n .before .before .found .ensures .1,
       ← n .before .is-idle .ensures,
       ← n .entry .ensures,
       ne-eqb _ _ (c .before .before .before .before .if1 .taken),
@@ -25,8 +25,8 @@ unfolding lookNumber lookBy marked ofReceiver
 returns-2 c =
     let n = c .before .before in
     simp (
-      ← n .before .before .before .before .dword-at .ensures,
-      ← n .before .before .found .ensures,
+      ← n .before .before .found .ensures .0,
+      ← n .before .before .found .ensures .1,
       ← n .before .is-idle .ensures,
       ← n .entry .ensures,
       c .before .if1 .left,
@@ -37,7 +37,6 @@ pub look-spec : {M : Type 1} → statement M
 look-spec =
     tie.close
     (tie.spec
-    (λ c κs. search needs)
     (λ c κs. search needs)
     (λ c κs. search needs)
     (λ c κs. search needs)
