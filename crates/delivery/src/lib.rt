@@ -1,7 +1,13 @@
 // Demand 3, that over every list of operations the channel does what document 01's plain channel does, is stated in specs/Demand.antt and
-// proved in proofs/Theorem.antt. Here is a self-test whose contract follows from it.
+// proved in proofs/Theorem.antt. Here it is the contract of a function, and a self-test follows from it.
 ghost use mathlib.Core.Path.{_≡_};
+ghost use Rattle.delivery.specs.Demand.{Demand3};
 ghost use Rattle.delivery.specs.Loopback.{loop, looped, ComesBack};
+
+// Does nothing: it is here for its contract, so that nothing passes the gate without the theorem.
+pub fn demand_3()
+    ensures { λ _. ⌜ Demand3 ⌝ }
+{}
 
 // What the loopback answers: the numbers of the three calls, and the length of the message that came back.
 pub struct Looped {
