@@ -1,5 +1,5 @@
 -- Whole calls at once, on plain numbers and lists: what the steps of a whole call come to. The code of whole calls is held to these, and
--- that they are the steps one after another is proved (proofs/AtOnce.antt).
+-- that they are the steps one after another is proved (proofs/SendAtOnce.antt, ReceiveAtOnce.antt).
 use Prim.Native.Nat.{ℕ, _+_, _%_}
 use mathlib.Core.Bool.{Bool, _||_, cond}
 use mathlib.Core.List.{List, [], _++_}

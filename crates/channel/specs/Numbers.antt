@@ -13,7 +13,7 @@ unfoldable pub need : Bool → ℕ → ℕ → ℕ
 need true number rest = rest
 need false number rest = number
 
--- 1 'descriptor is not 16 dwords', 2 'N not allowed', 3 'state doesn't fit': of every step, with the lengths of the two
+-- 1 'descriptor is not 16 dwords', 2 'N not allowed', 3 'state doesn't fit': of every step, with the lengths of the descriptor and the buffer
 unfoldable pub entry : ℕ → ℕ → Bool → ℕ → ℕ
 entry descriptor n fits rest = need (eqb descriptor 16) 1 (need (allowed n) 2 (need fits 3 rest))
 
