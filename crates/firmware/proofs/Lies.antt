@@ -1,0 +1,143 @@
+-- Each part that a judgement gives lies within the blob. Assumes nothing.
+use Prim.Native.Nat.{ℕ, _+_, _-_, _*_, _≤_, _<_}
+use mathlib.Core.Path.{_≡_, refl}
+use mathlib.Core.Bool.{Bool, true, false, not, _&&_, cond}
+use mathlib.Core.List.{List}
+use native.Mathlib.Omega.{arith}
+use lib.ListN.{length, length-take, length-drop}
+use lib.Dec.{eqb, leb, ltb}
+use borrow.Author.Tests.{ltb-true, ltb-false, leb-true, eqb-true, ne-eqb, not-false}
+use Rattle.firmware.specs.Bytes.{nowhere, bytes}
+use Rattle.firmware.specs.Css
+use Rattle.firmware.specs.Cpd
+use Rattle.firmware.specs.Inside.{hucName, image, hucPlace, within}
+use Rattle.firmware.specs.Private.{Lies, tableOf, foundIn, outer}
+use Rattle.firmware.specs.declared.bytes.Span.{Span}
+use Rattle.firmware.specs.declared.cpd.Table.{Table}
+use Rattle.firmware.specs.declared.cpd.Found.{Found}
+use Rattle.firmware.specs.declared.css.Sizes.{Sizes}
+use Rattle.firmware.specs.declared.css.Component.{Component}
+use Rattle.firmware.specs.declared.css.Component.the-variants.{Ucode, Rsa, Modulus, Exponent}
+use Rattle.firmware.proofs.Tests.{either, both, unmet, both-pass}
+
+-- what an image of n bytes has that is accepted
+pub record Accepted (n : ℕ) (z : Sizes) : Type 0 where
+  pub has-header : 128 ≤ n
+  pub sum : z .h ≡ 32 + z .k + z .m + z .e
+  pub above : z .h < z .s
+  pub there : 128 + 4 * (z .s - z .h) + 4 * z .k ≤ n
+
+pub sizes-agree : (z : Sizes) → Css.agree z ≡ true → (z .h ≡ 32 + z .k + z .m + z .e) × (z .h < z .s)
+unfolding Css.agree
+sizes-agree z e =
+    let l = both (eqb (z .h) (32 + z .k + z .m + z .e) && leb 1 (z .k)) (ltb (z .h) (z .s)) e in
+    let f = both (eqb (z .h) (32 + z .k + z .m + z .e)) (leb 1 (z .k)) (l .0) in
+    (eqb-true (z .h) (32 + z .k + z .m + z .e) (f .0), ltb-true (z .h) (z .s) (l .1))
+
+pub css-accepted : (b : List ℕ) → Css.number b ≡ 0 → Accepted (length b) (Css.sizes b)
+unfolding Css.number
+css-accepted b e =
+    let z : Sizes = Css.sizes b in
+    let there : ℕ = 128 + 4 * (z .s - z .h) + 4 * z .k in
+    let u = unmet (ltb (length b) 128) 15 _ refl e in
+    let v = unmet (not (Css.agree z)) 16 _ refl (u .1) in
+    let w = unmet (ltb (length b) there) 17 _ refl (v .1) in
+    let a = sizes-agree z (not-false (Css.agree z) (v .0)) in record {
+      has-header = ltb-false (length b) 128 (u .0);
+      sum = a .0;
+      above = a .1;
+      there = ltb-false (length b) there (w .0);
+    }
+
+-- a component that is shown ends beyond the header and lies within the blob
+pub record Beyond (n : ℕ) (p : Span) : Type 0 where
+  pub after : 128 ≤ p .to
+  pub lies : Lies n p
+
+pub shown-beyond : (b : List ℕ) (which : Component) → Css.shown which b ≡ true → Beyond (length b) (Css.laid which (Css.sizes b))
+unfolding Css.shown Css.laid
+shown-beyond b Ucode e = let a = css-accepted b (eqb-true (Css.number b) 0 e) in omega arith
+shown-beyond b Rsa e = let a = css-accepted b (eqb-true (Css.number b) 0 e) in omega arith
+shown-beyond b Modulus e =
+    let t = both (Css.accepted b) (Css.whole b) e in
+    let a = css-accepted b (eqb-true (Css.number b) 0 (t .0)) in
+    omega (arith, leb-true (4 * Css.sizes b .s) (length b) (t .1))
+shown-beyond b Exponent e =
+    let t = both (Css.accepted b) (Css.whole b) e in
+    let a = css-accepted b (eqb-true (Css.number b) 0 (t .0)) in
+    omega (arith, leb-true (4 * Css.sizes b .s) (length b) (t .1))
+
+pub css-lies : (b : List ℕ) (which : Component) → Lies (length b) (Css.place which b)
+unfolding Css.place
+css-lies b which = either (Lies (length b)) (Css.shown which b) _ _ (λ e. shown-beyond b which e .lies) (λ _. omega arith)
+
+-- the entries of a directory lie within the blob
+entries-there : (b : List ℕ) → Cpd.directory b ≡ 0 → Cpd.headerLength b + 24 * Cpd.count b ≤ length b
+unfolding Cpd.directory
+entries-there b e =
+    let u = unmet (ltb (length b) 20) 15 _ refl e in
+    let v = unmet (not (Cpd.marked b && leb 20 (Cpd.headerLength b))) 18 _ refl (u .1) in
+    let w = unmet (ltb (length b) (Cpd.headerLength b + 24 * Cpd.count b)) 19 0 refl (v .1) in
+    ltb-false (length b) (Cpd.headerLength b + 24 * Cpd.count b) (w .0)
+
+room : (t : Bool) (x y n : ℕ) → (t ≡ true → x + 24 * y ≤ n) → cond t x 0 + 24 * cond t y 0 ≤ n
+room true x y n h = h refl
+room false x y n h = omega arith
+
+table-lies : (b : List ℕ) → tableOf b .start + 24 * tableOf b .count ≤ length b
+unfolding tableOf
+table-lies b = room (eqb (Cpd.directory b) 0) (Cpd.headerLength b) (Cpd.count b) (length b) (λ e. entries-there b (eqb-true (Cpd.directory b) 0 e))
+
+pub table-room : (b : List ℕ) {t : Table} → t ≡ tableOf b → t .start + 24 * t .count ≤ length b
+table-room b e = rw e (table-lies b)
+
+-- the part of a name lies within the blob
+named-lies : (b name : List ℕ) → Cpd.number b name ≡ 0 → Lies (length b) (Cpd.named b name)
+unfolding Cpd.number
+named-lies b name e =
+    let u = unmet (not (Cpd.isName name)) 14 _ refl e in
+    let v = both-pass (Cpd.directory b) _ (u .1) in
+    let w = unmet (leb (Cpd.count b) (Cpd.firstEntry b name)) 20 _ refl (v .1) in
+    let x = unmet (ltb (length b) (Cpd.named b name .to)) 21 0 refl (w .1) in
+    omega (arith, ltb-false (length b) (Cpd.named b name .to) (x .0))
+
+pub cpd-lies : (b name : List ℕ) → Lies (length b) (Cpd.place b name)
+unfolding Cpd.place
+cpd-lies b name =
+    either (Lies (length b)) (eqb (Cpd.number b name) 0) _ _
+    (λ e. named-lies b name (eqb-true (Cpd.number b name) 0 e))
+    (λ _. omega arith)
+
+pub find-lies : (b name : List ℕ) {f : Found} → f ≡ foundIn b name → Lies (length b) (f .part)
+unfolding foundIn
+find-lies b name e = rw e (cpd-lies b name)
+
+-- the bytes of a part that lies within the blob are as many as its length
+pub length-bytes : (b : List ℕ) (p : Span) → Lies (length b) p → length (bytes b p) ≡ p .to - p .from
+length-bytes b p h = simp (length-take, length-drop) (omega arith)
+
+-- a component of the image in `huc_fw` lies within the directory's blob
+pub huc-lies : (b : List ℕ) (which : Component) → Lies (length b) (hucPlace which b)
+unfolding hucPlace
+huc-lies b which =
+    let p : Span = Cpd.place b hucName in
+    let q : Span = Css.laid which (Css.sizes (image b)) in
+    let outside : Lies (length b) p = cpd-lies b hucName in
+    either (Lies (length b)) (eqb (Cpd.number b hucName) 0 && Css.shown which (image b)) _ _
+    (λ e.
+    let inside : Lies (length (image b)) q = shown-beyond (image b) which (both (eqb (Cpd.number b hucName) 0) (Css.shown which (image b)) e .1) .lies in
+    let n : length (image b) ≡ p .to - p .from = length-bytes b p outside in
+    omega arith)
+    (λ _. omega arith)
+
+-- a place in the image, told by the code from where it ends, is the one that is shown
+chosen : (start : ℕ) (t : Bool) (p : Span) → (t ≡ true → 128 ≤ p .to) → outer start (cond t p nowhere) ≡ cond t (within start p) nowhere
+unfolding outer
+chosen start true p h =
+    let away : p .to ≡ 0 → ⊥ = (λ e. let l : 128 ≤ p .to = h refl in absurd (omega arith)) in
+    simp (ne-eqb (p .to) 0 away)
+chosen start false p h = refl
+
+pub outer-place : (start : ℕ) (which : Component) (i : List ℕ) → outer start (Css.place which i) ≡ cond (Css.shown which i) (within start (Css.laid which (Css.sizes i))) nowhere
+unfolding Css.place
+outer-place start which i = chosen start (Css.shown which i) (Css.laid which (Css.sizes i)) (λ e. shown-beyond i which e .after)

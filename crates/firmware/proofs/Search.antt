@@ -1,0 +1,45 @@
+-- Laws of `all` and `first`: how a walk goes on and how it ends. Assumes nothing.
+use Prim.Native.Nat.{ℕ, zero, suc, _+_, _-_, _≤_, _<_}
+use mathlib.Core.Path.{_≡_, refl, sym, ap, _∙_}
+use mathlib.Core.Bool.{Bool, true, false, _&&_, cond, and-false}
+use native.Mathlib.Numerals.{add-one}
+use mathlib.Core.Logic.{⊎-elim}
+use native.Mathlib.Nat.{eq-or-lt-of-le}
+use native.Mathlib.Omega.{arith}
+use Rattle.firmware.specs.Cpd.{all, first}
+
+pub all-more : (p : ℕ → Bool) (n : ℕ) → all p n ≡ true → p n ≡ true → all p (n + 1) ≡ true
+unfolding all
+all-more p n h q = rw (add-one n, h, q)
+
+-- one that fails is enough
+pub all-fails : (p : ℕ → Bool) (n j : ℕ) → j < n → p j ≡ false → all p n ≡ false
+unfolding all
+all-fails p zero j h q = absurd (omega arith)
+all-fails p (suc n) j h q =
+    let le : j ≤ n = omega arith in
+    ⊎-elim
+    (λ e. let r : p n ≡ false = rw e at q in rw r (and-false (all p n)))
+    (λ l. rw (all-fails p n j l q))
+    (eq-or-lt-of-le le)
+
+first-step : (p : ℕ → Bool) (n i : ℕ) → i < n → first p i (n - i) ≡ cond (p i) i (first p (i + 1) (n - (i + 1)))
+unfolding first
+first-step p n i h =
+    let e : n - i ≡ suc (n - (i + 1)) = omega arith in
+    rw (e, add-one i)
+
+-- a walk over n numbers that has come to i
+module _ (p : ℕ → Bool) (n : ℕ) where
+  pub begins : first p 0 n ≡ first p 0 (n - 0)
+  begins = ap (first p 0) (omega arith)
+
+  pub passes : (i : ℕ) {x : ℕ} → i < n → p i ≡ false → x ≡ first p i (n - i) → x ≡ first p (i + 1) (n - (i + 1))
+  passes i h q e = e ∙ first-step p n i h ∙ rw q
+
+  pub finds : (i : ℕ) {x : ℕ} → i < n → p i ≡ true → x ≡ first p i (n - i) → i ≡ x
+  finds i h q e = sym (e ∙ first-step p n i h ∙ rw q)
+
+  pub ends : (i : ℕ) {x : ℕ} → n ≤ i → x ≡ first p i (n - i) → i ≡ x
+  unfolding first
+  ends i h e = let z : n - i ≡ 0 = omega arith in sym (e ∙ rw z)

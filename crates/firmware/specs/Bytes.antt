@@ -1,0 +1,32 @@
+-- Numbers in a blob, and parts of a lent blob (document 01, 'Firmware images').
+use Prim.Native.Nat.{ℕ, _+_, _-_, _*_}
+use mathlib.Core.Path.{_≡_}
+use mathlib.Core.List.{List}
+use lib.ListN.{getD, take, drop}
+use denote.Ref.{RefT, ptr, now}
+use Rattle.firmware.specs.declared.bytes.Span.{Span}
+
+-- 'All numbers are little-endian.': the number of two bytes, and of four, from byte at on
+unfoldable pub wordAt : List ℕ → ℕ → ℕ
+wordAt b at = getD b at 0 + 0x100 * getD b (at + 1) 0
+
+unfoldable pub dwordAt : List ℕ → ℕ → ℕ
+dwordAt b at = getD b at 0 + 0x100 * getD b (at + 1) 0 + 0x10000 * getD b (at + 2) 0 + 0x1000000 * getD b (at + 3) 0
+
+-- the part from byte start to byte end, which is excluded
+abbrev pub span : ℕ → ℕ → Span
+span start end = record { from = start; to = end }
+
+-- 'the empty part at the start of the lent blob', which a refused location gives
+abbrev pub nowhere : Span
+nowhere = span 0 0
+
+-- the bytes of a part
+abbrev pub bytes : List ℕ → Span → List ℕ
+bytes b p = take (p .to - p .from) (drop (p .from) b)
+
+-- 'handed back as that part of the lent blob': r has its bytes, and lies where they lie in the memory of b
+pub record PartOf (b : RefT (List ℕ)) (p : Span) (r : RefT (List ℕ)) : Type 0 where
+  pub same-bytes : now r ≡ bytes (now b) p
+  pub same-block : ptr r .0 ≡ ptr b .0
+  pub same-place : ptr r .1 ≡ p .from + ptr b .1

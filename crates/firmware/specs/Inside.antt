@@ -1,0 +1,53 @@
+-- Parts inside a directory (document 01, 'Firmware images'): 'a part inside a directory is judged only after the directory's own
+-- numbers, 14 to 21, have passed'.
+use Prim.Native.Nat.{ℕ, _+_}
+use mathlib.Core.Bool.{Bool, _&&_, cond}
+use mathlib.Core.List.{List, [], _∷_}
+use lib.ListN.{length}
+use lib.Dec.{eqb, ltb}
+use Rattle.firmware.specs.Bytes.{span, nowhere, bytes}
+use Rattle.firmware.specs.Css
+use Rattle.firmware.specs.Cpd
+use Rattle.firmware.specs.Cpd.{then}
+use Rattle.firmware.specs.declared.bytes.Span.{Span}
+use Rattle.firmware.specs.declared.css.Answer.{Answer}
+use Rattle.firmware.specs.declared.css.Component.{Component}
+
+-- `HUCP.man` and `huc_fw`, in ASCII
+abbrev pub manifestName : List ℕ
+manifestName = 0x48 ∷ 0x55 ∷ 0x43 ∷ 0x50 ∷ 0x2E ∷ 0x6D ∷ 0x61 ∷ 0x6E ∷ []
+
+abbrev pub hucName : List ℕ
+hucName = 0x68 ∷ 0x75 ∷ 0x63 ∷ 0x5F ∷ 0x66 ∷ 0x77 ∷ []
+
+-- the bytes of the part of that name
+abbrev pub partNamed : List ℕ → List ℕ → List ℕ
+partNamed b name = bytes b (Cpd.place b name)
+
+-- '`HUCP.man` is a manifest: .. 44 bytes are needed, else 15'
+unfoldable pub manifestNumber : List ℕ → ℕ
+manifestNumber b = then (Cpd.number b manifestName) (cond (ltb (length (partNamed b manifestName)) 44) 15 0)
+
+-- 'the part named by `huc_fw` is judged by the CSS rules as a blob of its own'
+abbrev pub image : List ℕ → List ℕ
+image b = partNamed b hucName
+
+unfoldable pub hucNumber : List ℕ → ℕ
+hucNumber b = then (Cpd.number b hucName) (Css.number (image b))
+
+unfoldable pub hucTruncated : List ℕ → Bool
+hucTruncated b = eqb (Cpd.number b hucName) 0 && Css.truncated (image b)
+
+abbrev pub hucAnswer : List ℕ → Answer
+hucAnswer b = record { code = hucNumber b; truncated = hucTruncated b }
+
+-- a place in a part that starts at byte start, as a place in the directory's blob
+abbrev pub within : ℕ → Span → Span
+within start p = span (start + p .from) (start + p .to)
+
+-- where a component of that image lies in the directory's blob; 'the empty part at the start of the lent blob (the outer one, inside a directory)'
+unfoldable pub hucPlace : Component → List ℕ → Span
+hucPlace which b =
+    cond (eqb (Cpd.number b hucName) 0 && Css.shown which (image b))
+    (within (Cpd.place b hucName .from) (Css.laid which (Css.sizes (image b))))
+    nowhere

@@ -1,0 +1,6 @@
+pub mod Bytes
+pub mod Css
+pub mod Cpd
+pub mod Inside
+pub mod Version
+pub mod Private

@@ -1,0 +1,88 @@
+// The versions of a CSS image, of a manifest in a directory, and of the image in one.
+ghost use mathlib.Core.Path.{_≡_};
+ghost use Rattle.firmware.specs.Version.{ofVersion, ofManifest, cssReading, manifestReading, hucReading};
+ghost use Rattle.firmware.specs.Private.{manifestIn};
+use crate::bytes::dword_at;
+use crate::bytes::word_at;
+use crate::cpd::find;
+use crate::css::css_answer;
+
+// The version of a CSS image, or the number that refuses it.
+pub enum Version {
+    Known { major: u8, minor: u8, patch: u8 },
+    Refused(u32),
+}
+
+// The firmware version in a manifest, or the number that refuses it.
+pub enum Manifest {
+    Known {
+        major: u16,
+        minor: u16,
+        hotfix: u16,
+        build: u16,
+    },
+    Refused(u32),
+}
+
+pub fn css_version(blob: &[u8]) -> Version
+    ensures { λ r. ⌜ ofVersion r ≡ cssReading (now (blob .entry)) ⌝ }
+{
+    let a = css_answer(blob);
+    let code = a.code;
+    if code != 0 {
+        return Version::Refused(code);
+    }
+    let v = dword_at(blob, 64);
+    Version::Known {
+        major: (v / 0x1_0000 % 0x100) as u8,
+        minor: (v / 0x100 % 0x100) as u8,
+        patch: (v % 0x100) as u8,
+    }
+}
+
+// The version in a manifest.
+fn version_in(m: &[u8]) -> Manifest
+    ensures { λ r. ⌜ ofManifest r ≡ manifestIn (now (m .entry)) ⌝ }
+{
+    if m.len() < 44 {
+        return Manifest::Refused(15);
+    }
+    let major = word_at(m, 36);
+    let minor = word_at(m, 38);
+    let hotfix = word_at(m, 40);
+    let build = word_at(m, 42);
+    Manifest::Known {
+        major,
+        minor,
+        hotfix,
+        build,
+    }
+}
+
+// The firmware version in the part `HUCP.man` of a directory.
+pub fn manifest_version(blob: &[u8]) -> Manifest
+    ensures { λ r. ⌜ ofManifest r ≡ manifestReading (now (blob .entry)) ⌝ }
+{
+    let f = find(blob, b"HUCP.man");
+    let code = f.code;
+    if code != 0 {
+        return Manifest::Refused(code);
+    }
+    let from = f.part.from;
+    let to = f.part.to;
+    version_in(&blob[from..to])
+}
+
+// The version of the image in the part `huc_fw` of a directory.
+pub fn huc_version(blob: &[u8]) -> Version
+    ensures { λ r. ⌜ ofVersion r ≡ hucReading (now (blob .entry)) ⌝ }
+{
+    let f = find(blob, b"huc_fw");
+    let code = f.code;
+    if code != 0 {
+        return Version::Refused(code);
+    }
+    let from = f.part.from;
+    let to = f.part.to;
+    css_version(&blob[from..to])
+}
