@@ -1,0 +1,56 @@
+-- `worked_examples` meets its contract: each row of the table by computation, with every definition that it calls on unfolded. Assumes
+-- nothing.
+use Prim.{tt}
+use mathlib.Core.Path.{refl}
+use mathlib.Core.Option.{Option·elim}
+use Rattle.message.specs.Fields.{fit, dword}
+use Rattle.message.specs.Types.{typeOf, carried, bodyFields, bodies, ofType, bodyOf, someBody, known}
+use Rattle.message.specs.Header.{wellFormed, isMessage}
+use Rattle.message.specs.Words.{originNumber, originOf, decoded, unpack, headerFields, hxgFields, pack, refusing}
+use Rattle.channel.specs.Ring.{allowed, used, free}
+use Rattle.channel.specs.State.{zeros, allZero, idle, activeSend}
+use Rattle.channel.specs.Numbers.{need, entry, found, sendFound, receiveFound, marked}
+use Rattle.channel.specs.Opening.{openNumber, openBy}
+use Rattle.channel.specs.Send
+use Rattle.channel.specs.Receive
+use Rattle.firmware.specs.Bytes.{dwordAt}
+use Rattle.firmware.specs.Css
+use Rattle.firmware.specs.Cpd
+use Rattle.examples.specs.Example.{Each}
+use Rattle.examples.specs.Inputs
+use Rattle.examples.specs.Table.{Examples, table, fresh, once, twice, thrice, full, stores, around}
+use Rattle.examples.proofs.worked_examples.Statement.{statement}
+use Rattle.examples.proofs.worked_examples.Tie as tie
+
+infixr 5 _&_
+-- a row, and the rows after it
+abbrev _&_ : {A B : Type 0} → A → B → A × B
+_&_ row rows = (row, rows)
+
+examples : Examples
+unfolding
+    Each table fresh once twice thrice full stores around
+    Inputs.counted Inputs.dwords Inputs.descriptor Inputs.buffer Inputs.bufferWith
+    Inputs.littles Inputs.cssHeader Inputs.image Inputs.entry Inputs.directory
+    fit dword typeOf carried bodyFields bodies ofType bodyOf someBody known wellFormed isMessage originNumber originOf
+    decoded unpack Option·elim headerFields hxgFields pack refusing
+    allowed used free zeros allZero idle activeSend need entry found sendFound receiveFound marked openNumber openBy
+    Send.numberAt Send.lookBy Send.moveNumber Send.moveBy Send.publishNumber Send.publishBy Send.moves Send.rest Receive.lookNumber Receive.lookBy
+    dwordAt Css.sizes Css.agree Css.laid Css.number Css.truncated Css.shown Css.place
+    Cpd.all Cpd.first Cpd.isName Cpd.marked Cpd.directory Cpd.firstEntry Cpd.number Cpd.place
+examples =
+    refl & refl & refl & refl & refl & refl & refl
+    & refl & refl
+    & refl & refl & refl & refl & refl & refl & refl & refl
+    & refl & refl & refl & refl
+    & refl & refl & refl & refl & refl
+    & refl & refl & refl
+    & refl & refl & refl & refl & refl & refl
+    & refl & refl & refl & refl
+    & tt
+
+returns : tie.Need-returns
+returns c = examples
+
+pub worked-examples-spec : {M : Type 1} → statement M
+worked-examples-spec = tie.close (tie.spec returns)

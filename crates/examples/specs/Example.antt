@@ -1,0 +1,19 @@
+-- What a worked example is, of any kind, and what it is that the definitions give each of a list.
+use Prim.{Unit}
+use mathlib.Core.Path.{_≡_}
+use mathlib.Core.List.{List, [], _∷_}
+
+-- what the definitions give, and what the paper says
+pub record Example : Type 1 where
+  pub kind : Type 0
+  pub given : kind
+  pub said : kind
+
+infix 5 _gives_
+abbrev pub _gives_ : {A : Type 0} → A → A → Example
+_gives_ {A} given said = record { kind = A; given = given; said = said }
+
+-- in each of them the two are the same
+unfoldable pub Each : List Example → Type 0
+Each [] = Unit {0}
+Each (x ∷ xs) = (x .given ≡ x .said) × Each xs

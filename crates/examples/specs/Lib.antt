@@ -1,0 +1,3 @@
+pub mod Example
+pub mod Inputs
+pub mod Table
