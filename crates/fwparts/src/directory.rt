@@ -1,0 +1,114 @@
+// Code partition directories: each entry with its part, and why a directory or an entry is refused.
+use crate::fields::dword_at;
+use crate::fields::entry_dword;
+use crate::fields::header_length;
+use crate::inside;
+use crate::names::first_of_name;
+use crate::names::show;
+use crate::names::trimmed;
+use crate::words::number;
+use crate::words::part;
+use crate::words::shortage;
+use crate::words::text;
+
+// A file with the marker $CPD.
+pub(crate) fn report(blob: &[u8]) {
+    let d = firmware::cpd_directory(blob);
+    if d.code != 0 {
+        text(b"a code partition directory that is refused\n");
+        refusal(d.code, blob);
+        return;
+    }
+    number(b"a code partition directory, entries: ", d.count as u64);
+    text(b"\n");
+    every_entry(blob, d.count);
+    inside::manifest(blob);
+    inside::image(blob);
+}
+
+// Why a directory is refused. Its marker is there, so 18 is for its header length.
+fn refusal(code: u32, blob: &[u8]) {
+    match code {
+        15 => shortage(
+            b"  15: a directory needs ",
+            20,
+            b" for its header",
+            b"the file",
+            blob.len(),
+        ),
+        18 => {
+            number(b"  18: the header length is ", header_length(blob) as u64);
+            text(b" and must be at least 20\n");
+        }
+        19 => {
+            let count = dword_at(blob, 4) as u64;
+            let start = header_length(blob) as u64;
+            number(b"  19: a header of ", start);
+            number(b" bytes and the entries, ", count);
+            shortage(
+                b" of 24 bytes, need ",
+                start + 24 * count,
+                b"",
+                b"the file",
+                blob.len(),
+            );
+        }
+        _ => {
+            number(b"  refused by ", code as u64);
+            text(b"\n");
+        }
+    }
+}
+
+// Every entry, a line each.
+fn every_entry(blob: &[u8], count: usize) {
+    for i in 0..count {
+        entry(blob, i);
+    }
+}
+
+// An entry's name, and its part or why it has none. A name finds its first entry only.
+fn entry(blob: &[u8], i: usize) {
+    let name = trimmed(firmware::cpd_name(blob, i));
+    number(b"  entry ", i as u64);
+    text(b", \"");
+    show(name);
+    text(b"\"");
+    let first = first_of_name(blob, i);
+    if first < i {
+        number(
+            b": never found, since that is the name of entry ",
+            first as u64,
+        );
+        text(b"\n");
+        return;
+    }
+    let code = firmware::cpd_answer(blob, name);
+    if code == 0 {
+        part(
+            b": ",
+            firmware::cpd_ahead(blob, name),
+            firmware::cpd_part(blob, name),
+        );
+    } else {
+        entry_refusal(code, blob, i);
+    }
+}
+
+// Why seeking an entry's name is refused.
+fn entry_refusal(code: u32, blob: &[u8], i: usize) {
+    match code {
+        14 => text(b": 14: a name to seek is 1 to 12 bytes without a zero\n"),
+        21 => {
+            let from = (entry_dword(blob, i, 12) % 0x200_0000) as u64;
+            number(b": 21: a part from ", from);
+            number(b" to ", from + entry_dword(blob, i, 16) as u64);
+            number(b" lies beyond the file, which has ", blob.len() as u64);
+            text(b" bytes\n");
+        }
+        _ => {
+            number(b": refused by ", code as u64);
+            text(b"\n");
+        }
+    }
+}
