@@ -10,8 +10,8 @@ use borrow.Author.Tests.{ltb-true, ltb-false, leb-true, eqb-true, ne-eqb, not-fa
 use Rattle.firmware.specs.Bytes.{nowhere, bytes}
 use Rattle.firmware.specs.Css
 use Rattle.firmware.specs.Cpd
-use Rattle.firmware.specs.Inside.{hucName, image, hucPlace, within}
-use Rattle.firmware.specs.Private.{Lies, tableOf, foundIn, outer}
+use Rattle.firmware.specs.Inside.{hucName, hucBlob, hucPlace, within}
+use Rattle.firmware.specs.Private.{tableOf, foundIn, outer}
 use Rattle.firmware.specs.declared.bytes.Span.{Span}
 use Rattle.firmware.specs.declared.cpd.Table.{Table}
 use Rattle.firmware.specs.declared.cpd.Found.{Found}
@@ -19,6 +19,11 @@ use Rattle.firmware.specs.declared.css.Sizes.{Sizes}
 use Rattle.firmware.specs.declared.css.Component.{Component}
 use Rattle.firmware.specs.declared.css.Component.the-variants.{Ucode, Rsa, Modulus, Exponent}
 use Rattle.firmware.proofs.Tests.{either, both, unmet, both-pass}
+
+-- a part that lies within n bytes
+pub record Lies (n : ℕ) (p : Span) : Type 0 where
+  pub begins : p .from ≤ p .to
+  pub ends : p .to ≤ n
 
 -- what an image of n bytes has that is accepted
 pub record Accepted (n : ℕ) (z : Sizes) : Type 0 where
@@ -71,9 +76,14 @@ pub css-lies : (b : List ℕ) (which : Component) → Lies (length b) (Css.place
 unfolding Css.place
 css-lies b which = either (Lies (length b)) (Css.shown which b) _ _ (λ e. shown-beyond b which e .lies) (λ _. omega arith)
 
+-- the last component ends at 4s: 'Bytes past 4s belong to no part.'
+pub ends-at-4s : (b : List ℕ) → Css.number b ≡ 0 → Css.laid Exponent (Css.sizes b) .to ≡ 4 * Css.sizes b .s
+unfolding Css.laid
+ends-at-4s b e = let a = css-accepted b e in omega arith
+
 -- the entries of a directory lie within the blob
-entries-there : (b : List ℕ) → Cpd.directory b ≡ 0 → Cpd.headerLength b + 24 * Cpd.count b ≤ length b
-unfolding Cpd.directory
+entries-there : (b : List ℕ) → Cpd.directoryNumber b ≡ 0 → Cpd.headerLength b + 24 * Cpd.count b ≤ length b
+unfolding Cpd.directoryNumber
 entries-there b e =
     let u = unmet (ltb (length b) 20) 15 _ refl e in
     let v = unmet (not (Cpd.marked b && leb 20 (Cpd.headerLength b))) 18 _ refl (u .1) in
@@ -86,7 +96,7 @@ room false x y n h = omega arith
 
 table-lies : (b : List ℕ) → tableOf b .start + 24 * tableOf b .count ≤ length b
 unfolding tableOf
-table-lies b = room (eqb (Cpd.directory b) 0) (Cpd.headerLength b) (Cpd.count b) (length b) (λ e. entries-there b (eqb-true (Cpd.directory b) 0 e))
+table-lies b = room (eqb (Cpd.directoryNumber b) 0) (Cpd.headerLength b) (Cpd.count b) (length b) (λ e. entries-there b (eqb-true (Cpd.directoryNumber b) 0 e))
 
 pub table-room : (b : List ℕ) {t : Table} → t ≡ tableOf b → t .start + 24 * t .count ≤ length b
 table-room b e = rw e (table-lies b)
@@ -96,7 +106,7 @@ named-lies : (b name : List ℕ) → Cpd.number b name ≡ 0 → Lies (length b)
 unfolding Cpd.number
 named-lies b name e =
     let u = unmet (not (Cpd.isName name)) 14 _ refl e in
-    let v = both-pass (Cpd.directory b) _ (u .1) in
+    let v = both-pass (Cpd.directoryNumber b) _ (u .1) in
     let w = unmet (leb (Cpd.count b) (Cpd.firstEntry b name)) 20 _ refl (v .1) in
     let x = unmet (ltb (length b) (Cpd.named b name .to)) 21 0 refl (w .1) in
     omega (arith, ltb-false (length b) (Cpd.named b name .to) (x .0))
@@ -121,12 +131,12 @@ pub huc-lies : (b : List ℕ) (which : Component) → Lies (length b) (hucPlace 
 unfolding hucPlace
 huc-lies b which =
     let p : Span = Cpd.place b hucName in
-    let q : Span = Css.laid which (Css.sizes (image b)) in
+    let q : Span = Css.laid which (Css.sizes (hucBlob b)) in
     let outside : Lies (length b) p = cpd-lies b hucName in
-    either (Lies (length b)) (eqb (Cpd.number b hucName) 0 && Css.shown which (image b)) _ _
+    either (Lies (length b)) (eqb (Cpd.number b hucName) 0 && Css.shown which (hucBlob b)) _ _
     (λ e.
-    let inside : Lies (length (image b)) q = shown-beyond (image b) which (both (eqb (Cpd.number b hucName) 0) (Css.shown which (image b)) e .1) .lies in
-    let n : length (image b) ≡ p .to - p .from = length-bytes b p outside in
+    let inside : Lies (length (hucBlob b)) q = shown-beyond (hucBlob b) which (both (eqb (Cpd.number b hucName) 0) (Css.shown which (hucBlob b)) e .1) .lies in
+    let n : length (hucBlob b) ≡ p .to - p .from = length-bytes b p outside in
     omega arith)
     (λ _. omega arith)
 

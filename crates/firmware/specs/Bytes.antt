@@ -1,8 +1,11 @@
--- Numbers in a blob, and parts of a lent blob (document 01, 'Firmware images').
+-- Numbers in a blob, parts of a lent blob, and numbers that are judged one after another (document 01, 'Firmware images' and
+-- 'The numbers that say no').
 use Prim.Native.Nat.{ℕ, _+_, _-_, _*_}
 use mathlib.Core.Path.{_≡_}
+use mathlib.Core.Bool.{cond}
 use mathlib.Core.List.{List}
 use lib.ListN.{getD, take, drop}
+use lib.Dec.{eqb}
 use denote.Ref.{RefT, ptr, now}
 use Rattle.firmware.specs.declared.bytes.Span.{Span}
 
@@ -30,3 +33,7 @@ pub record PartOf (b : RefT (List ℕ)) (p : Span) (r : RefT (List ℕ)) : Type 
   pub same-bytes : now r ≡ bytes (now b) p
   pub same-block : ptr r .0 ≡ ptr b .0
   pub same-place : ptr r .1 ≡ p .from + ptr b .1
+
+-- a number, or where it is 0 the one that is judged after it
+abbrev pub then : ℕ → ℕ → ℕ
+then number after = cond (eqb number 0) after number

@@ -4,7 +4,7 @@ use mathlib.Core.Bool.{Bool, true, not, _&&_, cond}
 use mathlib.Core.List.{List}
 use lib.ListN.{length, getD}
 use lib.Dec.{eqb, leb, ltb}
-use Rattle.firmware.specs.Bytes.{dwordAt, span, nowhere}
+use Rattle.firmware.specs.Bytes.{dwordAt, span, nowhere, then}
 use Rattle.firmware.specs.declared.bytes.Span.{Span}
 use Rattle.firmware.specs.declared.cpd.Directory.{Directory}
 
@@ -36,18 +36,14 @@ abbrev pub headerLength : List ℕ → ℕ
 headerLength b = getD b 10 0
 
 -- 15 'at least 20 bytes', 18 'CPD marker wrong or header length below 20', 19 'H + 24n bytes must be there'
-unfoldable pub directory : List ℕ → ℕ
-directory b =
+unfoldable pub directoryNumber : List ℕ → ℕ
+directoryNumber b =
     cond (ltb (length b) 20) 15
     (cond (not (marked b && leb 20 (headerLength b))) 18 (cond (ltb (length b) (headerLength b + 24 * count b)) 19 0))
 
--- a number, or where it is 0 the one that is judged after it
-abbrev pub then : ℕ → ℕ → ℕ
-then number after = cond (eqb number 0) after number
-
 -- 'Entries start at byte H': the byte where entry i starts
-abbrev pub entry : List ℕ → ℕ → ℕ
-entry b i = headerLength b + 24 * i
+abbrev pub entryStart : List ℕ → ℕ → ℕ
+entryStart b i = headerLength b + 24 * i
 
 -- 'An entry: name 12 bytes (zero padded), offset dword (bits 24:0 count), length dword, 4 reserved bytes.', of the entry at byte at
 abbrev pub offset : List ℕ → ℕ → ℕ
@@ -66,17 +62,17 @@ agrees b name at = all (λ j. eqb (getD b (at + j) 0) (getD name j 0)) 12
 
 -- 'The walk ends at the first entry whose twelve bytes agree.': its index, or n where there is none
 unfoldable pub firstEntry : List ℕ → List ℕ → ℕ
-firstEntry b name = first (λ i. agrees b name (entry b i)) 0 (count b)
+firstEntry b name = first (λ i. agrees b name (entryStart b i)) 0 (count b)
 
 -- where the part of the first entry of that name lies
 abbrev pub named : List ℕ → List ℕ → Span
-named b name = entryPart b (entry b (firstEntry b name))
+named b name = entryPart b (entryStart b (firstEntry b name))
 
 -- 14 'name to seek not 1 to 12 bytes without a zero', the directory's own, 20 'no entry of that name', 21 'entry's part lies beyond the blob'
 unfoldable pub number : List ℕ → List ℕ → ℕ
 number b name =
     cond (not (isName name)) 14
-    (then (directory b) (cond (leb (count b) (firstEntry b name)) 20 (cond (ltb (length b) (named b name .to)) 21 0)))
+    (then (directoryNumber b) (cond (leb (count b) (firstEntry b name)) 20 (cond (ltb (length b) (named b name .to)) 21 0)))
 
 -- the part that is handed back for that name
 unfoldable pub place : List ℕ → List ℕ → Span
@@ -84,8 +80,8 @@ place b name = cond (eqb (number b name) 0) (named b name) nowhere
 
 -- what a directory has, whatever is sought: its number and, where that is 0, how many entries
 unfoldable pub entriesOf : List ℕ → Directory
-entriesOf b = record { code = directory b; count = cond (eqb (directory b) 0) (count b) 0 }
+entriesOf b = record { code = directoryNumber b; count = cond (eqb (directoryNumber b) 0) (count b) 0 }
 
 -- where the twelve bytes of the name of entry i lie
 unfoldable pub namePlace : List ℕ → ℕ → Span
-namePlace b i = cond (ltb i (entriesOf b .count)) (span (entry b i) (entry b i + 12)) nowhere
+namePlace b i = cond (ltb i (entriesOf b .count)) (span (entryStart b i) (entryStart b i + 12)) nowhere

@@ -1,14 +1,13 @@
--- Parts inside a directory (document 01, 'Firmware images'): 'a part inside a directory is judged only after the directory's own
--- numbers, 14 to 21, have passed'.
+-- Parts inside a directory (document 01, 'Firmware images', and 'The numbers that say no': 'a part inside a directory is judged only after the directory's own
+-- numbers, 14 to 21, have passed').
 use Prim.Native.Nat.{ℕ, _+_}
 use mathlib.Core.Bool.{Bool, _&&_, cond}
 use mathlib.Core.List.{List, [], _∷_}
 use lib.ListN.{length}
 use lib.Dec.{eqb, ltb}
-use Rattle.firmware.specs.Bytes.{span, nowhere, bytes}
+use Rattle.firmware.specs.Bytes.{span, nowhere, bytes, then}
 use Rattle.firmware.specs.Css
 use Rattle.firmware.specs.Cpd
-use Rattle.firmware.specs.Cpd.{then}
 use Rattle.firmware.specs.declared.bytes.Span.{Span}
 use Rattle.firmware.specs.declared.css.Answer.{Answer}
 use Rattle.firmware.specs.declared.css.Component.{Component}
@@ -29,14 +28,14 @@ unfoldable pub manifestNumber : List ℕ → ℕ
 manifestNumber b = then (Cpd.number b manifestName) (cond (ltb (length (partNamed b manifestName)) 44) 15 0)
 
 -- 'the part named by `huc_fw` is judged by the CSS rules as a blob of its own'
-abbrev pub image : List ℕ → List ℕ
-image b = partNamed b hucName
+abbrev pub hucBlob : List ℕ → List ℕ
+hucBlob b = partNamed b hucName
 
 unfoldable pub hucNumber : List ℕ → ℕ
-hucNumber b = then (Cpd.number b hucName) (Css.number (image b))
+hucNumber b = then (Cpd.number b hucName) (Css.number (hucBlob b))
 
 unfoldable pub hucTruncated : List ℕ → Bool
-hucTruncated b = eqb (Cpd.number b hucName) 0 && Css.truncated (image b)
+hucTruncated b = eqb (Cpd.number b hucName) 0 && Css.truncated (hucBlob b)
 
 abbrev pub hucAnswer : List ℕ → Answer
 hucAnswer b = record { code = hucNumber b; truncated = hucTruncated b }
@@ -48,6 +47,6 @@ within start p = span (start + p .from) (start + p .to)
 -- where a component of that image lies in the directory's blob; 'the empty part at the start of the lent blob (the outer one, inside a directory)'
 unfoldable pub hucPlace : Component → List ℕ → Span
 hucPlace which b =
-    cond (eqb (Cpd.number b hucName) 0 && Css.shown which (image b))
-    (within (Cpd.place b hucName .from) (Css.laid which (Css.sizes (image b))))
+    cond (eqb (Cpd.number b hucName) 0 && Css.shown which (hucBlob b))
+    (within (Cpd.place b hucName .from) (Css.laid which (Css.sizes (hucBlob b))))
     nowhere

@@ -1,5 +1,5 @@
 -- What the crate's private functions answer: the definitions of Css and Cpd, gathered as the code gathers them. No public contract cites these.
-use Prim.Native.Nat.{ℕ, _+_, _*_, _<_, _^_, _≤_}
+use Prim.Native.Nat.{ℕ, _+_, _*_, _<_, _^_}
 use mathlib.Core.Bool.{false, cond}
 use mathlib.Core.List.{List}
 use lib.ListN.{length}
@@ -16,11 +16,6 @@ use Rattle.firmware.specs.declared.css.Component.{Component}
 use Rattle.firmware.specs.declared.css.Component.the-variants.{Ucode, Rsa, Modulus, Exponent}
 use Rattle.firmware.specs.declared.cpd.Found.{Found}
 use Rattle.firmware.specs.declared.cpd.Table.{Table}
-
--- a part that lies within n bytes
-pub record Lies (n : ℕ) (p : Span) : Type 0 where
-  pub begins : p .from ≤ p .to
-  pub ends : p .to ≤ n
 
 -- sizes that are dwords
 pub record Small (z : Sizes) : Type 0 where
@@ -54,19 +49,20 @@ componentOf Exponent i = i .exponent
 -- a directory's number, where its entries start and how many they are
 unfoldable pub tableOf : List ℕ → Table
 tableOf b = record {
-  code = Cpd.directory b;
-  start = cond (eqb (Cpd.directory b) 0) (Cpd.headerLength b) 0;
-  count = cond (eqb (Cpd.directory b) 0) (Cpd.count b) 0;
+  code = Cpd.directoryNumber b;
+  start = cond (eqb (Cpd.directoryNumber b) 0) (Cpd.headerLength b) 0;
+  count = cond (eqb (Cpd.directoryNumber b) 0) (Cpd.count b) 0;
 }
 
 -- the first of count entries from byte start that has the name
 unfoldable pub walked : List ℕ → List ℕ → ℕ → ℕ → ℕ
 walked b name start count = Cpd.first (λ i. Cpd.agrees b name (start + 24 * i)) 0 count
 
--- the part that the entry at byte at names
+-- a number and a part
 abbrev pub foundAt : ℕ → Span → Found
 foundAt n p = record { code = n; part = p }
 
+-- the part that the entry at byte at names
 unfoldable pub entryFound : List ℕ → ℕ → Found
 entryFound b at = cond (ltb (length b) (Cpd.entryPart b at .to)) (foundAt 21 nowhere) (foundAt 0 (Cpd.entryPart b at))
 

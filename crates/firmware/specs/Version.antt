@@ -5,11 +5,11 @@ use mathlib.Core.List.{List, [], _∷_}
 use lib.Dec.{eqb}
 use Rattle.firmware.specs.Bytes.{wordAt}
 use Rattle.firmware.specs.Css
-use Rattle.firmware.specs.Inside.{manifestName, manifestNumber, hucNumber, image, partNamed}
+use Rattle.firmware.specs.Inside.{manifestName, manifestNumber, hucNumber, hucBlob, partNamed}
 use Rattle.firmware.specs.declared.version.Version.{Version}
 use Rattle.firmware.specs.declared.version.Version.the-variants as css
-use Rattle.firmware.specs.declared.version.Manifest.{Manifest}
-use Rattle.firmware.specs.declared.version.Manifest.the-variants as manifest
+use Rattle.firmware.specs.declared.version.ManifestVersion.{ManifestVersion}
+use Rattle.firmware.specs.declared.version.ManifestVersion.the-variants as manifest
 
 -- a reading: 0 with the version's numbers in their order, or the refusal's number; 'a refused version reading no version'
 pub record Reading : Type 0 where
@@ -36,13 +36,13 @@ manifestReading b = reading (manifestNumber b) (manifestVersion (partNamed b man
 
 -- the version of the image in `huc_fw`
 unfoldable pub hucReading : List ℕ → Reading
-hucReading b = reading (hucNumber b) (cssVersion (image b))
+hucReading b = reading (hucNumber b) (cssVersion (hucBlob b))
 
 -- the paper's number and values for each case of the answers in code
 unfoldable pub ofVersion : Version → Reading
 ofVersion (css.Known major minor patch) = record { number = 0; version = major ∷ minor ∷ patch ∷ [] }
 ofVersion (css.Refused n) = record { number = n; version = [] }
 
-unfoldable pub ofManifest : Manifest → Reading
+unfoldable pub ofManifest : ManifestVersion → Reading
 ofManifest (manifest.Known major minor hotfix build) = record { number = 0; version = major ∷ minor ∷ hotfix ∷ build ∷ [] }
 ofManifest (manifest.Refused n) = record { number = n; version = [] }

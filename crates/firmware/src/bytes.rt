@@ -2,7 +2,7 @@
 ghost use mathlib.Core.Path.{_≡_};
 ghost use Prim.Native.Nat.{_+_, _≤_, _<_, _^_};
 ghost use lib.ListN.{length};
-ghost use Rattle.firmware.specs.Bytes.{wordAt, dwordAt, PartOf};
+ghost use Rattle.firmware.specs.Bytes.{wordAt, dwordAt, span, PartOf};
 
 // A part of a blob: from byte `from` to byte `to`, which is excluded. It does not leave the crate.
 pub(crate) struct Span {
@@ -54,7 +54,7 @@ pub(crate) fn part(blob: &[u8], p: Span) -> &[u8]
 // The bytes of the blob ahead of that part.
 pub(crate) fn ahead(blob: &[u8], p: Span) -> &[u8]
     requires { ⌜ p .from ≤ length (now blob) ⌝ }
-    ensures { λ r. ⌜ PartOf (blob .entry) (record { from = 0; to = p .from }) r ⌝ }
+    ensures { λ r. ⌜ PartOf (blob .entry) (span 0 (p .from)) r ⌝ }
 {
     let to = p.from;
     &blob[0..to]

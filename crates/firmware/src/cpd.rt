@@ -1,6 +1,6 @@
 // HuC code partition directories (CPD): seeking a name, and its part of the lent blob.
 ghost use mathlib.Core.Path.{_≡_};
-ghost use Prim.Native.Nat.{_+_, _*_, _≤_, _<_};
+ghost use Prim.Native.Nat.{_+_, _*_, _≤_};
 ghost use lib.ListN.{length, getD};
 ghost use Rattle.firmware.specs.Bytes.{PartOf, span, nowhere};
 ghost use Rattle.firmware.specs.Cpd;
@@ -110,7 +110,7 @@ fn walk(blob: &[u8], start: usize, count: usize, name: &[u8]) -> usize
     ensures { λ r. ⌜ r ≡ walked (now (blob .entry)) (now (name .entry)) start count ⌝ }
 {
     let mut i = 0;
-    let found = 'entries: loop {
+    'entries: loop {
         if count <= i {
             break 'entries count;
         }
@@ -122,8 +122,7 @@ fn walk(blob: &[u8], start: usize, count: usize, name: &[u8]) -> usize
             }
         }
         break 'entries i;
-    };
-    found
+    }
 }
 
 // The part that the entry at byte `at` names.

@@ -12,6 +12,7 @@ use crate::bytes::ahead;
 use crate::bytes::dword_at;
 use crate::bytes::part;
 
+// The parts of an image beside its header, in their order.
 pub enum Component {
     Ucode,
     Rsa,
@@ -99,7 +100,7 @@ fn next(p: Span, dwords: usize) -> Span
 }
 
 // Judges an image.
-pub(crate) fn judge(blob: &[u8]) -> Image
+fn judge(blob: &[u8]) -> Image
     ensures { λ r. ⌜ r ≡ imageOf (now (blob .entry)) ⌝ }
 {
     if blob.len() < 128 {
@@ -140,7 +141,8 @@ pub(crate) fn judge(blob: &[u8]) -> Image
     }
 }
 
-pub(crate) fn span_of(image: Image, which: Component) -> Span
+// Where one component lies.
+fn span_of(image: Image, which: Component) -> Span
     ensures { λ r. ⌜ r ≡ componentOf which image ⌝ }
 {
     match which {
@@ -149,6 +151,14 @@ pub(crate) fn span_of(image: Image, which: Component) -> Span
         Component::Modulus => image.modulus,
         Component::Exponent => image.exponent,
     }
+}
+
+// Where a component lies.
+pub(crate) fn css_place(blob: &[u8], which: Component) -> Span
+    ensures { λ r. ⌜ r ≡ Css.place which (now (blob .entry)) ⌝ }
+{
+    let image = judge(blob);
+    span_of(image, which)
 }
 
 // Whether the blob is an image, by number, and whether that is truncated.
@@ -166,8 +176,7 @@ pub fn css_answer(blob: &[u8]) -> Answer
 pub fn css_part(blob: &[u8], which: Component) -> &[u8]
     ensures { λ r. ⌜ PartOf (blob .entry) (Css.place which (now (blob .entry))) r ⌝ }
 {
-    let image = judge(blob);
-    let p = span_of(image, which);
+    let p = css_place(blob, which);
     part(blob, p)
 }
 
@@ -175,11 +184,11 @@ pub fn css_part(blob: &[u8], which: Component) -> &[u8]
 pub fn css_ahead(blob: &[u8], which: Component) -> &[u8]
     ensures { λ r. ⌜ PartOf (blob .entry) (span 0 (Css.place which (now (blob .entry)) .from)) r ⌝ }
 {
-    let image = judge(blob);
-    let p = span_of(image, which);
+    let p = css_place(blob, which);
     ahead(blob, p)
 }
 
+// Each component by its name: the empty part at the blob's start where it is not shown.
 pub fn ucode(blob: &[u8]) -> &[u8]
     ensures { λ r. ⌜ PartOf (blob .entry) (Css.place Ucode (now (blob .entry))) r ⌝ }
 {

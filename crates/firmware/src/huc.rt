@@ -12,8 +12,7 @@ use crate::cpd::find;
 use crate::css::Answer;
 use crate::css::Component;
 use crate::css::css_answer;
-use crate::css::judge;
-use crate::css::span_of;
+use crate::css::css_place;
 
 // Whether the directory has such an image, by number, and whether that is truncated.
 pub fn huc_answer(blob: &[u8]) -> Answer
@@ -56,8 +55,7 @@ fn place(blob: &[u8], which: Component) -> Span
     }
     let from = f.part.from;
     let to = f.part.to;
-    let image = judge(&blob[from..to]);
-    let p = span_of(image, which);
+    let p = css_place(&blob[from..to], which);
     outer(from, p)
 }
 
@@ -77,6 +75,7 @@ pub fn huc_ahead(blob: &[u8], which: Component) -> &[u8]
     ahead(blob, p)
 }
 
+// Each component by its name.
 pub fn huc_ucode(blob: &[u8]) -> &[u8]
     ensures { λ r. ⌜ PartOf (blob .entry) (hucPlace Ucode (now (blob .entry))) r ⌝ }
 {

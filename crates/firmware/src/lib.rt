@@ -1,5 +1,6 @@
 // Firmware files: the parts and versions of CSS images and of HuC code partition directories (CPD).
-// A part is handed back as a sub-slice of the caller's blob. Nothing about a blob is kept, and no offset leaves this crate.
+// Public are answers, versions and parts, each a sub-slice of the caller's blob. Nothing about a blob is kept. Where a part starts is shown by the
+// bytes ahead of it, which are a part too; no function takes an offset back.
 mod bytes;
 mod cpd;
 mod css;
@@ -28,7 +29,7 @@ pub use huc::huc_modulus;
 pub use huc::huc_part;
 pub use huc::huc_rsa;
 pub use huc::huc_ucode;
-pub use version::Manifest;
+pub use version::ManifestVersion;
 pub use version::Version;
 pub use version::css_version;
 pub use version::huc_version;

@@ -14,7 +14,7 @@ pub enum Version {
 }
 
 // The firmware version in a manifest, or the number that refuses it.
-pub enum Manifest {
+pub enum ManifestVersion {
     Known {
         major: u16,
         minor: u16,
@@ -24,6 +24,7 @@ pub enum Manifest {
     Refused(u32),
 }
 
+// The version of a CSS image.
 pub fn css_version(blob: &[u8]) -> Version
     ensures { λ r. ⌜ ofVersion r ≡ cssReading (now (blob .entry)) ⌝ }
 {
@@ -41,17 +42,17 @@ pub fn css_version(blob: &[u8]) -> Version
 }
 
 // The version in a manifest.
-fn version_in(m: &[u8]) -> Manifest
+fn version_in(m: &[u8]) -> ManifestVersion
     ensures { λ r. ⌜ ofManifest r ≡ manifestIn (now (m .entry)) ⌝ }
 {
     if m.len() < 44 {
-        return Manifest::Refused(15);
+        return ManifestVersion::Refused(15);
     }
     let major = word_at(m, 36);
     let minor = word_at(m, 38);
     let hotfix = word_at(m, 40);
     let build = word_at(m, 42);
-    Manifest::Known {
+    ManifestVersion::Known {
         major,
         minor,
         hotfix,
@@ -60,13 +61,13 @@ fn version_in(m: &[u8]) -> Manifest
 }
 
 // The firmware version in the part `HUCP.man` of a directory.
-pub fn manifest_version(blob: &[u8]) -> Manifest
+pub fn manifest_version(blob: &[u8]) -> ManifestVersion
     ensures { λ r. ⌜ ofManifest r ≡ manifestReading (now (blob .entry)) ⌝ }
 {
     let f = find(blob, b"HUCP.man");
     let code = f.code;
     if code != 0 {
-        return Manifest::Refused(code);
+        return ManifestVersion::Refused(code);
     }
     let from = f.part.from;
     let to = f.part.to;

@@ -1,6 +1,6 @@
 // The words and numbers that the lines are made of, and document 01's rule behind each number that says no.
 use firmware::Answer;
-use firmware::Manifest;
+use firmware::ManifestVersion;
 use firmware::Version;
 
 // Text as it stands.
@@ -85,10 +85,10 @@ pub(crate) fn version(v: Version) {
 }
 
 // A manifest's firmware version, or the number that refuses to read one; ends the line.
-pub(crate) fn manifest(v: Manifest) {
+pub(crate) fn manifest(v: ManifestVersion) {
     match v {
-        Manifest::Refused(code) => verdict(code),
-        Manifest::Known {
+        ManifestVersion::Refused(code) => verdict(code),
+        ManifestVersion::Known {
             major,
             minor,
             hotfix,

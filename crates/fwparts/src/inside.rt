@@ -8,13 +8,13 @@ use crate::words::shortage;
 use crate::words::text;
 use crate::words::version;
 use firmware::Component;
-use firmware::Manifest;
+use firmware::ManifestVersion;
 
 // The manifest's firmware version.
 pub(crate) fn manifest(blob: &[u8]) {
     match firmware::manifest_version(blob) {
-        Manifest::Refused(code) => manifest_refusal(code, blob),
-        Manifest::Known {
+        ManifestVersion::Refused(code) => manifest_refusal(code, blob),
+        ManifestVersion::Known {
             major,
             minor,
             hotfix,

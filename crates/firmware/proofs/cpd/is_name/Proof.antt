@@ -1,5 +1,5 @@
 -- `cpd::is_name` meets its contract. Assumes nothing.
-use Prim.Native.Nat.{ℕ, _≤_, _-_}
+use Prim.Native.Nat.{_≤_, _-_}
 use mathlib.Core.Path.{_≡_, ap}
 use mathlib.Core.Bool.{true, not}
 use borrow.Author.Tests.{eq-eqb, ne-eqb, le-leb, lt-leb}

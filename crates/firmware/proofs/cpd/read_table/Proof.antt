@@ -1,5 +1,5 @@
 -- `cpd::read_table` meets its contract. Assumes nothing.
-use borrow.Author.Tests.{lt-ltb, le-ltb, eq-eqb}
+use borrow.Author.Tests.{lt-ltb, le-ltb}
 use Rattle.firmware.specs.Cpd
 use Rattle.firmware.specs.Private.{tableOf}
 use borrow.Author.Needs.{needs}
@@ -7,11 +7,11 @@ use Rattle.firmware.proofs.cpd.read_table.Statement.{statement}
 use Rattle.firmware.proofs.cpd.read_table.Tie as tie
 
 returns : tie.Need-returns
-unfolding tableOf Cpd.directory
+unfolding tableOf Cpd.directoryNumber
 returns c = simp (lt-ltb _ _ (c .before .if1 .taken)) (c .no-table .ensures)
 
 returns-2 : tie.Need-returns-2
-unfolding tableOf Cpd.directory
+unfolding tableOf Cpd.directoryNumber
 returns-2 c =
     let at-wide = c .before .before .before in
     simp (
@@ -23,7 +23,7 @@ returns-2 c =
     (c .no-table2 .ensures)
 
 returns-3 : tie.Need-returns-3
-unfolding tableOf Cpd.directory
+unfolding tableOf Cpd.directoryNumber
 returns-3 c =
     let at-marked = c .before .before .before .before in
     let at-wide = at-marked .before in
@@ -38,7 +38,7 @@ returns-3 c =
     (c .no-table3 .ensures)
 
 returns-4 : tie.Need-returns-4
-unfolding tableOf Cpd.directory
+unfolding tableOf Cpd.directoryNumber
 returns-4 c =
     let at-marked = c .before .before .before in
     let at-wide = at-marked .before in
