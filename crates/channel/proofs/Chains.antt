@@ -29,7 +29,7 @@ cases true f g = f refl
 cases false f g = g refl
 
 -- true and false differ
-true-false : {X : Type 0} → _≡_ {A = Bool} true false → X
+pub true-false : {X : Type 0} → _≡_ {A = Bool} true false → X
 true-false e = let z : _≡_ {A = ℕ} 0 1 = cc in absurd (omega arith)
 
 -- a chain that answers x, another number than this test's: the test holds, and the rest answers x
@@ -121,6 +121,12 @@ receive-active n s e =
 pub open-sixteen : (d n : ℕ) → openNumber d n ≡ 0 → d ≡ 16
 unfolding openNumber
 open-sixteen d n e = eqb-true d 16 (passed (eqb d 16) 1 (need (allowed n) 2 0) 0 refl e)
+
+-- and its buffer at most 16,384
+pub open-high : (d n : ℕ) → openNumber d n ≡ 0 → n ≤ 16384
+unfolding openNumber
+open-high d n e =
+    allowed-high n (passed (allowed n) 2 0 0 refl (passed-rest (eqb d 16) 1 (need (allowed n) 2 0) 0 refl e))
 
 -- what a step that goes on has, of either side: none of 1, 2 and 3 refuses it
 pub record Going (n : ℕ) (s : State) : Type 0 where

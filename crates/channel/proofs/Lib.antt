@@ -7,3 +7,4 @@ pub mod Taken
 pub mod ReceiveAtOnce
 pub mod Steps
 pub mod Runs
+pub mod InWords

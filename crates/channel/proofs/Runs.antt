@@ -47,11 +47,11 @@ drop-replicate (suc k) zero x = rw zero-sub
 drop-replicate (suc k) (suc n) x = rw suc-sub-suc (drop-replicate k n x)
 
 -- the part from place k to the end
-to-end : (k : ℕ) (xs : List ℕ) → take (length xs - k) (drop k xs) ≡ drop k xs
+pub to-end : (k : ℕ) (xs : List ℕ) → take (length xs - k) (drop k xs) ≡ drop k xs
 to-end k xs = take-all (length xs - k) (drop k xs) (simp length-drop (omega arith))
 
 -- xs copied to the front of the part of k dwords from place a on
-put-front : (a k : ℕ) (b xs : List ℕ) → length xs ≤ k → a + k ≤ length b → putMid a k b (xs ++ drop (length xs) (midOf a k b)) ≡ take a b ++ (xs ++ drop (a + length xs) b)
+pub put-front : (a k : ℕ) (b xs : List ℕ) → length xs ≤ k → a + k ≤ length b → putMid a k b (xs ++ drop (length xs) (midOf a k b)) ≡ take a b ++ (xs ++ drop (a + length xs) b)
 put-front a k b xs h l =
     let m : length xs ≤ length (take k (drop a b)) = simp (length-take, length-drop) (omega arith) in
     rw (append-assoc, ← drop-append-le (length xs) (take k (drop a b)) (drop k (drop a b)), take-append-drop, drop-drop)

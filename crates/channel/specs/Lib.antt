@@ -6,3 +6,4 @@ pub mod Send
 pub mod Receive
 pub mod AtOnce
 pub mod Opening
+pub mod Words

@@ -5,10 +5,9 @@ mod opening;
 mod receiving;
 mod sending;
 mod state;
+pub mod words;
 
 pub use opening::open_channel;
-pub use receiving::whole_receive;
-pub use sending::whole_send;
 pub use state::Ended;
 pub use state::Looked;
 pub use state::Opened;

@@ -8,13 +8,13 @@ use crate::state::Opened;
 use crate::state::Receiver;
 use crate::state::Sender;
 
-fn open_number(descriptor: usize, n: usize) -> u32
+pub(crate) fn open_number(descriptor: usize, n: usize) -> u32
     ensures { λ r. ⌜ r ≡ openNumber descriptor n ⌝ }
 {
     refuse(descriptor == 16, 1, refuse(allowed(n), 2, 0))
 }
 
-fn clear(words: &mut [u32])
+pub(crate) fn clear(words: &mut [u32])
     ensures { λ _. ⌜ now (words .exit) ≡ replicate (length (now (words .entry))) 0 ⌝ }
 {
     let mut i = 0;

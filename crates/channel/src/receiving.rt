@@ -35,7 +35,7 @@ pub(crate) struct Seen {
 }
 
 // What the descriptor says, and the header at an own head, read after it: TAIL that covers a message is published after the message.
-fn found(own: usize, desc: &[u32], buf: &[u32]) -> Seen
+pub(crate) fn found(own: usize, desc: &[u32], buf: &[u32]) -> Seen
     ensures { λ r. ⌜ (r .header ≡ getD (now (buf .entry)) own 0) × (r .code ≡ Receive.foundWith own (now (desc .entry)) (length (now (buf .entry))) (r .header)) ⌝ }
 {
     let status = wide(dword_at(desc, 2));
@@ -85,7 +85,7 @@ fn lay_message(out: &mut [u32], header: u32, second: u32, len: usize, buf: &[u32
 
 // A whole receive on plain numbers: with whether the receiver's state fits as idle, and its own head. Each dword of the ring is read at most
 // once: the header, the second dword, and where these are well formed the others, straight to their places.
-pub fn whole_receive(
+pub(crate) fn whole_receive(
     fits: bool,
     own: usize,
     desc: &mut [u32],

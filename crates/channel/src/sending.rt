@@ -25,7 +25,7 @@ use crate::state::fits_sending;
 use message::dword_at;
 
 // The number of a send's look, for a state that fits or not.
-fn look_number(fits: bool, own: usize, desc: &[u32], n: usize, msg: &[u32]) -> u32
+pub(crate) fn look_number(fits: bool, own: usize, desc: &[u32], n: usize, msg: &[u32]) -> u32
     ensures { λ r. ⌜ r ≡ Send.numberAt fits own (now (msg .entry)) (now (desc .entry)) n ⌝ }
 {
     let status = wide(dword_at(desc, 2));
@@ -42,7 +42,13 @@ fn look_number(fits: bool, own: usize, desc: &[u32], n: usize, msg: &[u32]) -> u
 
 // A whole send on plain numbers: with whether the sender's state fits as idle, and its own tail. The message goes into the ring in at
 // most two straight runs.
-pub fn whole_send(fits: bool, own: usize, desc: &mut [u32], buf: &mut [u32], msg: &[u32]) -> Ended
+pub(crate) fn whole_send(
+    fits: bool,
+    own: usize,
+    desc: &mut [u32],
+    buf: &mut [u32],
+    msg: &[u32],
+) -> Ended
     ensures { λ r. ⌜ ended r (now (desc .exit)) (now (buf .exit)) [] ≡ send fits own (now (msg .entry)) (now (desc .entry)) (now (buf .entry)) ⌝ }
 {
     let n = buf.len();

@@ -1,0 +1,235 @@
+-- Laws of a state in words: what a change of the words is to the state. Assumes nothing.
+use Prim.Native.Nat.{ℕ, zero, suc, _+_, _-_, _%_, _≤_, _<_, _^_}
+use mathlib.Core.Path.{_≡_, refl, sym, ap, _∙_}
+use mathlib.Core.Bool.{Bool, true, false, _||_}
+use mathlib.Core.List.{List, [], _∷_, _++_}
+use native.Mathlib.Nat.{mod-lt}
+use native.Mathlib.Omega.{arith}
+use mathlib.Core.List.{append-nil}
+use lib.ListN.{length, getD, set, take, drop, replicate, drop-of-length-le, length-take, length-drop}
+use lib.Seq.{drop-drop, getD-drop}
+use borrow.Rule.Slice.PartMut.{midOf, putMid}
+use lib.Dec.{eqb}
+use borrow.Author.Tests.{eqb-true}
+use Rattle.message.proofs.Tests.{and-l, and-r}
+use Rattle.channel.specs.State.{State, state, zeros, allZero, idleAt, idle}
+use Rattle.channel.specs.AtOnce.{AtOnce, ended, send, sendBy, receive, receiveBy, receiveNumber, takeNumber, lengthAt}
+use Rattle.channel.specs.declared.state.Ended.{Ended}
+use Rattle.message.specs.Header.{totalLength}
+use Rattle.channel.specs.Ring.{HEAD}
+use Rattle.channel.specs.Numbers.{marked}
+use Rattle.channel.specs.Send
+use Rattle.channel.specs.Receive
+use Rattle.channel.specs.Words.{stateOf, outcome}
+use Rattle.channel.proofs.Runs.{drop-replicate, put-front}
+use Rattle.channel.proofs.Chains.{cases, true-false}
+use Rattle.channel.proofs.Taken.{taken-has, take-not-13}
+use Rattle.channel.proofs.ReceiveAtOnce.{receive-method}
+use Rattle.channel.proofs.SendAtOnce.{Accepted, accepted, send-method}
+
+-- 260 words are four numbers and a copy
+pub four : (P : List ℕ → Type 0) → ((n own len moved : ℕ) (copy : List ℕ) → length copy ≡ 256 → P (n ∷ own ∷ len ∷ moved ∷ copy)) → (w : List ℕ) → length w ≡ 260 → P w
+four P f [] e = absurd (omega arith)
+four P f (a ∷ []) e = absurd (omega arith)
+four P f (a ∷ b ∷ []) e = absurd (omega arith)
+four P f (a ∷ b ∷ c ∷ []) e = absurd (omega arith)
+four P f (a ∷ b ∷ c ∷ d ∷ r) e = f a b c d r (omega arith)
+
+pub own-set : (x : ℕ) (w : List ℕ) → length w ≡ 260 → stateOf (set w 1 x) ≡ state (getD w 0 0) x (getD w 2 0) (getD w 3 0) (drop 4 w)
+unfolding stateOf
+own-set x = four (λ w. stateOf (set w 1 x) ≡ state (getD w 0 0) x (getD w 2 0) (getD w 3 0) (drop 4 w)) (λ n own len moved copy e. refl)
+
+-- the fields of the state in their words
+pub n-is : (w : List ℕ) → getD w 0 0 ≡ stateOf w .n
+unfolding stateOf
+n-is w = refl
+
+pub own-is : (w : List ℕ) → getD w 1 0 ≡ stateOf w .own
+unfolding stateOf
+own-is w = refl
+
+pub len-is : (w : List ℕ) → getD w 2 0 ≡ stateOf w .len
+unfolding stateOf
+len-is w = refl
+
+pub moved-is : (w : List ℕ) → getD w 3 0 ≡ stateOf w .moved
+unfolding stateOf
+moved-is w = refl
+
+-- the words after a move of a send
+pub moved-set : (w : List ℕ) → length w ≡ 260 → stateOf (set w 3 (stateOf w .moved + 1)) ≡ Send.moved (stateOf w)
+unfolding stateOf
+moved-set = four (λ w. stateOf (set w 3 (stateOf w .moved + 1)) ≡ Send.moved (stateOf w)) (λ n own len moved copy e. refl)
+
+-- the words with another N
+pub n-set : (x : ℕ) (w : List ℕ) → length w ≡ 260 → stateOf (set w 0 x) ≡ state x (stateOf w .own) (stateOf w .len) (stateOf w .moved) (stateOf w .copy)
+unfolding stateOf
+n-set x = four (λ w. stateOf (set w 0 x) ≡ state x (stateOf w .own) (stateOf w .len) (stateOf w .moved) (stateOf w .copy)) (λ n own len moved copy e. refl)
+
+pub rested : (x : ℕ) (w : List ℕ) → length w ≡ 260 → stateOf (set (set (set (take 4 w ++ replicate (length w - 4) 0) 1 x) 2 0) 3 0) ≡ idleAt (getD w 0 0) x
+unfolding stateOf zeros
+rested x w h = let e : length w - 4 ≡ 256 = omega arith in rw e (four (λ w. stateOf (set (set (set (take 4 w ++ replicate 256 0) 1 x) 2 0) 3 0) ≡ idleAt (getD w 0 0) x) (λ n own len moved copy e. refl) w h)
+
+pub filled : (m w : List ℕ) → length w ≡ 260 → stateOf w .moved ≡ 0 → stateOf w .copy ≡ zeros → stateOf (set (take 4 w ++ (m ++ drop (length m) (drop 4 w))) 2 (length m)) ≡ Send.loaded (stateOf w) m
+unfolding stateOf zeros
+filled m = four (λ w. stateOf w .moved ≡ 0 → stateOf w .copy ≡ zeros → stateOf (set (take 4 w ++ (m ++ drop (length m) (drop 4 w))) 2 (length m)) ≡ Send.loaded (stateOf w) m)
+    (λ n own len moved copy e z q.
+    let y : moved ≡ 0 = z in
+    let p : copy ≡ replicate 256 0 = q in
+    rw (y, p, drop-replicate))
+
+-- the copy made all zeros, by a part of the words
+pub cleared : (w : List ℕ) → 4 ≤ length w → putMid 4 (length w - 4) w (replicate (length (midOf 4 (length w - 4) w)) 0) ≡ take 4 w ++ replicate (length w - 4) 0
+cleared w h =
+    let e : drop (length w - 4) (drop 4 w) ≡ [] = drop-of-length-le (drop 4 w) {i = length w - 4} (simp length-drop (omega arith)) in
+    let l : length (take (length w - 4) (drop 4 w)) ≡ length w - 4 = simp (length-take, length-drop) (omega arith) in
+    rw (e, l, append-nil)
+
+-- dwords put at the front of the copy, by a part of the words
+pub put-copy : (m w : List ℕ) → 4 + length m ≤ length w → putMid 4 (length w - 4) w (m ++ drop (length m) (midOf 4 (length w - 4) w)) ≡ take 4 w ++ (m ++ drop (length m) (drop 4 w))
+put-copy m w h =
+    let l : length m ≤ length w - 4 = omega arith in
+    let g : 4 + (length w - 4) ≤ length w = omega arith in
+    put-front 4 (length w - 4) w m l g ∙ rw drop-drop
+
+-- a copy of zeros alone
+all-zeros : (k : ℕ) (copy : List ℕ) → length copy ≡ k → allZero copy ≡ true → copy ≡ replicate k 0
+unfolding allZero
+all-zeros zero [] l e = refl
+all-zeros zero (x ∷ xs) l e = absurd (omega arith)
+all-zeros (suc k) [] l e = absurd (omega arith)
+all-zeros (suc k) (x ∷ xs) l e =
+    let x0 : x ≡ 0 = eqb-true x 0 (and-l (eqb x 0) (allZero xs) e) in
+    let r : xs ≡ replicate k 0 = all-zeros k xs (omega arith) (and-r (eqb x 0) (allZero xs) e) in
+    rw (x0, r)
+
+-- what the words of an idle state have
+pub record Idle (w : List ℕ) : Type 0 where
+  pub no-len : stateOf w .len ≡ 0
+  pub no-moved : stateOf w .moved ≡ 0
+  pub no-copy : stateOf w .copy ≡ zeros
+
+pub idle-words : (n : ℕ) (w : List ℕ) → length w ≡ 260 → idle n (stateOf w) ≡ true → Idle w
+unfolding idle stateOf zeros
+idle-words n w h e =
+    let l : length (drop 4 w) ≡ 256 = simp length-drop (omega arith) in
+    record {
+      no-len = eqb-true (stateOf w .len) 0 (search (and-l, and-r));
+      no-moved = eqb-true (stateOf w .moved) 0 (search (and-l, and-r));
+      no-copy = all-zeros 256 (drop 4 w) l (search (and-l, and-r));
+    }
+
+-- an idle state's words with another own offset
+pub idle-own : (x : ℕ) (w : List ℕ) → length w ≡ 260 → Idle w → stateOf (set w 1 x) ≡ idleAt (getD w 0 0) x
+unfolding stateOf
+idle-own x w h i = own-set x w h ∙ rw (i .no-len, i .no-moved, i .no-copy)
+
+-- the words after a receive's look, and after a move of a receive
+pub header-set : (l h : ℕ) (w : List ℕ) → length w ≡ 260 → Idle w → l ≡ totalLength h → stateOf (set (set (set w 2 l) 3 1) 4 h) ≡ Receive.loaded (stateOf w) h
+unfolding stateOf zeros
+header-set l h = four (λ w. Idle w → l ≡ totalLength h → stateOf (set (set (set w 2 l) 3 1) 4 h) ≡ Receive.loaded (stateOf w) h)
+    (λ n own len moved copy e i t. let q : copy ≡ replicate 256 0 = i .no-copy in rw (q, t))
+
+pub copy-set : (v : ℕ) (w : List ℕ) → length w ≡ 260 → stateOf (set (set w (4 + stateOf w .moved) v) 3 (stateOf w .moved + 1)) ≡ Receive.moved (stateOf w) v
+unfolding stateOf
+copy-set v = four (λ w. stateOf (set (set w (4 + stateOf w .moved) v) 3 (stateOf w .moved + 1)) ≡ Receive.moved (stateOf w) v)
+    (λ n own len moved copy e. let z : 4 + moved ≡ suc (suc (suc (suc moved))) = omega arith in rw z)
+
+-- the dword of the copy in its word
+pub copy-at : (k : ℕ) (w : List ℕ) → getD w (4 + k) 0 ≡ getD (stateOf w .copy) k 0
+unfolding stateOf
+copy-at k w = sym (getD-drop 4 w k 0)
+
+-- a look that accepts, of a send and of a receive
+pub send-looked : (s : State) (m d b : List ℕ) → Send.lookBy 0 s m d b ≡ record { code = 0; len = 0; next = Send.loaded s m; desc = d; buf = b; out = [] }
+unfolding Send.lookBy marked
+send-looked s m d b = refl
+
+pub receive-looked : (s : State) (d b : List ℕ) → Receive.lookBy 0 s d b ≡ record { code = 0; len = 0; next = Receive.loaded s (getD b (s .own) 0); desc = d; buf = b; out = [] }
+unfolding Receive.lookBy marked
+receive-looked s d b = refl
+
+pub marked-none : (d : List ℕ) → marked 0 d ≡ d
+unfolding marked
+marked-none d = refl
+
+-- a look that accepts, with the state in words
+pub looked-send : (w m d b w′ d′ : List ℕ) (c : ℕ) → c ≡ Send.lookNumber (stateOf w) m d b → c ≡ 0 → d′ ≡ marked c d → stateOf w′ ≡ Send.loaded (stateOf w) m → outcome c 0 w′ d′ b [] ≡ Send.look (stateOf w) m d b
+looked-send w m d b w′ d′ c e z f g =
+    let f0 : d′ ≡ d = f ∙ ap (λ k. marked k d) z ∙ marked-none d in
+    rw (sym e, z, f0, g) (sym (send-looked (stateOf w) m d b))
+
+pub looked-receive : (w d b w′ d′ : List ℕ) (c : ℕ) → c ≡ Receive.lookNumber (stateOf w) d b → c ≡ 0 → d′ ≡ marked c d → stateOf w′ ≡ Receive.loaded (stateOf w) (getD b (stateOf w .own) 0) → outcome c 0 w′ d′ b [] ≡ Receive.look (stateOf w) d b
+looked-receive w d b w′ d′ c e z f g =
+    let f0 : d′ ≡ d = f ∙ ap (λ k. marked k d) z ∙ marked-none d in
+    rw (sym e, z, f0, g) (sym (receive-looked (stateOf w) d b))
+
+-- a receive's publish that moves HEAD, with the state in words
+module _ (w o d b w′ d′ : List ℕ) (c : ℕ) (e : c ≡ Receive.publishNumber (stateOf w) o d b) (f : d′ ≡ set d HEAD (Receive.past (stateOf w) b)) (g : stateOf w′ ≡ idleAt (stateOf w .n) (Receive.past (stateOf w) b)) where
+  pub passed-over : c ≡ 13 → outcome 13 0 w′ d′ b o ≡ Receive.publish (stateOf w) o d b
+  unfolding Receive.publishBy
+  passed-over z = rw (sym e, z, f, g)
+
+  pub handed-out : (l : ℕ) (o′ : List ℕ) → c ≡ 0 → l ≡ stateOf w .len → o′ ≡ take (stateOf w .len) (stateOf w .copy) ++ drop (stateOf w .len) o → outcome 0 l w′ d′ b o′ ≡ Receive.publish (stateOf w) o d b
+  unfolding Receive.publishBy
+  handed-out l o′ z k q = rw (sym e, z, f, g, k, q)
+
+-- words that are made for N
+pub made : (x y : ℕ) (w : List ℕ) → length w ≡ 260 → stateOf w ≡ idleAt y 0 → stateOf (set w 0 x) ≡ idleAt x 0
+made x y w h e = n-set x w h ∙ rw e
+
+-- a whole send, with the state in words
+module _ (w m d b : List ℕ) (h : length w ≡ 260) (r : Ended) (d′ b′ : List ℕ) (e : ended r d′ b′ [] ≡ send (idle (length b) (stateOf w)) (stateOf w .own) m d b) where
+  number : r .code ≡ 0 → Send.numberAt (idle (length b) (stateOf w)) (stateOf w .own) m d (length b) ≡ 0
+  unfolding sendBy
+  number z = sym (ap (λ (x : AtOnce). x .code) e) ∙ z
+
+  has : r .code ≡ 0 → Accepted (idle (length b) (stateOf w)) (stateOf w .own) m d (length b)
+  has z = accepted (idle (length b) (stateOf w)) (stateOf w .own) m d (length b) (number z)
+
+  pub sent-whole : r .code ≡ 0 → outcome (r .code) 0 (set w 1 (r .own)) d′ b′ [] ≡ Send.whole (stateOf w) m d b
+  unfolding stateOf
+  sent-whole z = rw (send-method (stateOf w) m d b (idle (length b) (stateOf w)) r d′ b′ refl e, z) (ap (λ (x : State). record { code = 0; len = 0; next = x; desc = d′; buf = b′; out = [] }) (idle-own (r .own) w h (idle-words (length b) w h (has z .is-fit))))
+
+  pub sent-refused : eqb (r .code) 0 ≡ false → outcome (r .code) 0 w d′ b′ [] ≡ Send.whole (stateOf w) m d b
+  sent-refused z = rw (send-method (stateOf w) m d b (idle (length b) (stateOf w)) r d′ b′ refl e, z)
+
+  pub sent-own : r .code ≡ 0 → r .own < 2 ^ 32
+  unfolding sendBy
+  sent-own z =
+      let i = has z .enters in
+      let o : r .own ≡ (stateOf w .own + length m) % length b = rw (number z) at (ap (λ (x : AtOnce). x .own) e) in
+      omega (arith, o, mod-lt (stateOf w .own + length m) {m = length b} (omega arith), i .low, i .high)
+
+-- a whole receive, with the state in words
+module _ (w o d b : List ℕ) (h : length w ≡ 260) (r : Ended) (d′ o′ : List ℕ) (e : ended r d′ b o′ ≡ receive (idle (length b) (stateOf w)) (stateOf w .own) o d b) where
+  taken : ℕ
+  taken = takeNumber (idle (length b) (stateOf w)) (stateOf w .own) (length o) d (length b) (getD b (stateOf w .own) 0)
+
+  -- 0 and 13 come after a look that accepts
+  took : (eqb (r .code) 0 || eqb (r .code) 13) ≡ true → taken ≡ 0
+  unfolding taken receiveBy receiveNumber
+  took z =
+      cases (eqb taken 0) (λ t. eqb-true taken 0 t)
+      (λ t.
+      let c : r .code ≡ taken = ap (λ (x : AtOnce). x .code) e ∙ rw t in
+      let n = take-not-13 (idle (length b) (stateOf w)) (stateOf w .own) (length o) d (length b) (getD b (stateOf w .own) 0) in
+      true-false (sym z ∙ rw (c, t, n)))
+
+  pub received-whole : (eqb (r .code) 0 || eqb (r .code) 13) ≡ true → outcome (r .code) (r .len) (set w 1 (r .own)) d′ b o′ ≡ Receive.whole (stateOf w) o d b
+  unfolding taken stateOf
+  received-whole z =
+      let t = taken-has _ _ _ _ _ _ (took z) in
+      let i = idle-own (r .own) w h (idle-words (length b) w h (t .is-fit)) in
+      rw (receive-method (stateOf w) o d b (idle (length b) (stateOf w)) r d′ o′ refl e, z) (ap (λ (x : State). record { code = r .code; len = r .len; next = x; desc = d′; buf = b; out = o′ }) i)
+
+  pub received-refused : (eqb (r .code) 0 || eqb (r .code) 13) ≡ false → outcome (r .code) (r .len) w d′ b o′ ≡ Receive.whole (stateOf w) o d b
+  received-refused z = rw (receive-method (stateOf w) o d b (idle (length b) (stateOf w)) r d′ o′ refl e, z)
+
+  pub received-own : (eqb (r .code) 0 || eqb (r .code) 13) ≡ true → r .own < 2 ^ 32
+  unfolding taken receiveBy
+  received-own z =
+      let i = taken-has _ _ _ _ _ _ (took z) .enters in
+      let c : (eqb (receiveNumber taken (stateOf w .own) b) 0 || eqb (receiveNumber taken (stateOf w .own) b) 13) ≡ true = rw (ap (λ (x : AtOnce). x .code) e) at z in
+      let q : r .own ≡ (stateOf w .own + lengthAt (stateOf w .own) b) % length b = rw c at (ap (λ (x : AtOnce). x .own) e) in
+      omega (arith, q, mod-lt (stateOf w .own + lengthAt (stateOf w .own) b) {m = length b} (omega arith), i .low, i .high)

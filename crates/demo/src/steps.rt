@@ -1,0 +1,39 @@
+// A send by its steps, with a publish that comes too early and a caller that overwrites its message.
+use crate::calls::Ctb;
+use crate::calls::picture;
+use crate::calls::receive;
+use crate::calls::send_look;
+use crate::calls::send_publish;
+use crate::calls::send_store;
+use crate::dwords::put;
+use crate::dwords::request;
+use crate::dwords::whole;
+use crate::words::dword;
+use crate::words::text;
+
+// The caller overwrites its message after the look; what is stored is the sender's own copy.
+fn swapped_after_look(c: Ctb) -> Ctb {
+    let mut dwords = request(14, 2);
+    let next = send_look(c, whole(&dwords));
+    dword(
+        b"  The caller changes dword 2 of its message from ",
+        dwords[2],
+    );
+    put(&mut dwords, 2, 0xdead_beef);
+    dword(b" to ", dwords[2]);
+    text(b"\n");
+    next
+}
+
+// Look, store and publish, one at a time.
+pub(crate) fn stepwise(c: Ctb) {
+    text(b"\n8. A send step by step: no swap after the look, no publish before the last dword\n");
+    let c = swapped_after_look(c);
+    let c = send_store(c);
+    let c = send_publish(c);
+    let c = receive(c, 14, 2);
+    let c = send_store(c);
+    let c = send_store(c);
+    let c = picture(send_publish(c));
+    receive(c, 14, 2);
+}

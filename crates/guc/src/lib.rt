@@ -1,0 +1,2 @@
+// The C interface: the functions of include/guc.h, each held to the definition that the Rattle function behind it is held to.
+mod ring;
