@@ -7,7 +7,7 @@ use crate::words::text;
 use crate::words::told;
 use firmware::Answer;
 use firmware::Component;
-use firmware::Manifest;
+use firmware::ManifestVersion;
 use firmware::Version;
 
 // A part by its name, the bytes ahead of it and its own. It ends within the file, so its end does not wrap.
@@ -136,10 +136,10 @@ fn sought(blob: &[u8], name: &[u8]) {
 }
 
 // A manifest's firmware version.
-fn manifest(v: Manifest) {
+fn manifest(v: ManifestVersion) {
     match v {
-        Manifest::Refused(code) => number(b", NO VERSION, rule ", code as usize),
-        Manifest::Known {
+        ManifestVersion::Refused(code) => number(b", NO VERSION, rule ", code as usize),
+        ManifestVersion::Known {
             major,
             minor,
             hotfix,
