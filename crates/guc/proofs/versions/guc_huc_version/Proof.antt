@@ -1,0 +1,10 @@
+-- `versions::guc_huc_version` meets its contract. Assumes nothing.
+use borrow.Author.Needs.{needs}
+use Rattle.guc.proofs.versions.guc_huc_version.Statement.{statement}
+use Rattle.guc.proofs.versions.guc_huc_version.Tie as tie
+
+returns : tie.Need-returns
+returns c = rw (c .before .huc-version .ensures) at (c .told .ensures)
+
+pub guc-huc-version-spec : {M : Type 1} → statement M
+guc-huc-version-spec = tie.close (tie.spec (λ c κs. search needs) (λ c κs. search needs) returns)

@@ -1,0 +1,206 @@
+// Firmware parts for C: located, and copied out in the call that judges them.
+ghost use mathlib.Core.Path.{_≡_};
+ghost use mathlib.Core.List.{_++_};
+ghost use Prim.Native.Nat.{_≤_};
+ghost use lib.ListN.{length, drop};
+ghost use Rattle.firmware.specs.Css;
+ghost use Rattle.firmware.specs.Inside.{hucNumber, hucTruncated};
+ghost use Rattle.guc.specs.Parts.{imageBy, componentOf, ofWhich, cssPart, hucPart, cpdPart, copied, copiedBy, cssCopy, hucCopy, cpdCopy};
+use firmware::Answer;
+use firmware::Component;
+
+// 0 or the number that refuses an image, and whether it is truncated, 0 or 1.
+#[repr(C)]
+pub struct Image {
+    pub code: u32,
+    pub truncated: u32,
+}
+
+// 0 and where a part lies in the lent blob, or the number that refuses it with start and length 0.
+#[repr(C)]
+pub struct Part {
+    pub code: u32,
+    pub start: usize,
+    pub len: usize,
+}
+
+// 0 and the bytes copied, or the number that refuses it; 100 with the bytes that are needed.
+#[repr(C)]
+pub struct Copied {
+    pub code: u32,
+    pub len: usize,
+}
+
+pub(crate) enum Which {
+    None,
+    One(Component),
+}
+
+// The component of a number.
+fn component(which: u32) -> Which
+    ensures { λ r. ⌜ ofWhich r ≡ componentOf which ⌝ }
+{
+    match which {
+        0 => Which::One(Component::Ucode),
+        1 => Which::One(Component::Rsa),
+        2 => Which::One(Component::Modulus),
+        3 => Which::One(Component::Exponent),
+        _ => Which::None,
+    }
+}
+
+fn as_image(a: Answer) -> Image
+    ensures { λ r. ⌜ r ≡ imageBy (a .code) (a .truncated) ⌝ }
+{
+    if a.truncated {
+        Image {
+            code: a.code,
+            truncated: 1,
+        }
+    } else {
+        Image {
+            code: a.code,
+            truncated: 0,
+        }
+    }
+}
+
+#[no_mangle]
+pub extern "C" fn guc_css_answer(blob: &[u8]) -> Image
+    ensures { λ r. ⌜ r ≡ imageBy (Css.number (now (blob .entry))) (Css.truncated (now (blob .entry))) ⌝ }
+{
+    let a = firmware::css_answer(blob);
+    as_image(a)
+}
+
+#[no_mangle]
+pub extern "C" fn guc_huc_answer(blob: &[u8]) -> Image
+    ensures { λ r. ⌜ r ≡ imageBy (hucNumber (now (blob .entry))) (hucTruncated (now (blob .entry))) ⌝ }
+{
+    let a = firmware::huc_answer(blob);
+    as_image(a)
+}
+
+#[no_mangle]
+pub extern "C" fn guc_css_part(blob: &[u8], which: u32) -> Part
+    ensures { λ r. ⌜ r ≡ cssPart which (now (blob .entry)) ⌝ }
+{
+    match component(which) {
+        Which::None => Part {
+            code: 101,
+            start: 0,
+            len: 0,
+        },
+        Which::One(c) => {
+            let a = firmware::css_answer(blob);
+            let ahead = firmware::css_ahead(blob, c);
+            let part = firmware::css_part(blob, c);
+            Part {
+                code: a.code,
+                start: ahead.len(),
+                len: part.len(),
+            }
+        }
+    }
+}
+
+#[no_mangle]
+pub extern "C" fn guc_huc_part(blob: &[u8], which: u32) -> Part
+    ensures { λ r. ⌜ r ≡ hucPart which (now (blob .entry)) ⌝ }
+{
+    match component(which) {
+        Which::None => Part {
+            code: 101,
+            start: 0,
+            len: 0,
+        },
+        Which::One(c) => {
+            let a = firmware::huc_answer(blob);
+            let ahead = firmware::huc_ahead(blob, c);
+            let part = firmware::huc_part(blob, c);
+            Part {
+                code: a.code,
+                start: ahead.len(),
+                len: part.len(),
+            }
+        }
+    }
+}
+
+#[no_mangle]
+pub extern "C" fn guc_cpd_part(blob: &[u8], name: &[u8]) -> Part
+    ensures { λ r. ⌜ r ≡ cpdPart (now (blob .entry)) (now (name .entry)) ⌝ }
+{
+    let code = firmware::cpd_answer(blob, name);
+    let ahead = firmware::cpd_ahead(blob, name);
+    let part = firmware::cpd_part(blob, name);
+    Part {
+        code,
+        start: ahead.len(),
+        len: part.len(),
+    }
+}
+
+// Copies src to the front of dst: a straight run, with no test inside.
+fn copy_bytes(dst: &mut [u8], src: &[u8])
+    requires { ⌜ length (now src) ≤ length (now dst) ⌝ }
+    ensures { λ _. ⌜ now (dst .exit) ≡ now (src .entry) ++ drop (length (now (src .entry))) (now (dst .entry)) ⌝ }
+{
+    let mut i = 0;
+    while i < src.len() {
+        dst[i] = src[i];
+        i += 1;
+    }
+}
+
+// Copies a part out that a number accepts, where the destination has room for it.
+fn copy_out(code: u32, part: &[u8], dst: &mut [u8]) -> Copied
+    ensures { λ r. ⌜ copied r (now (dst .exit)) ≡ copiedBy code (now (part .entry)) (now (dst .entry)) ⌝ }
+{
+    let len = part.len();
+    if code != 0 {
+        return Copied { code, len: 0 };
+    }
+    if dst.len() < len {
+        return Copied { code: 100, len };
+    }
+    copy_bytes(dst, part);
+    Copied { code: 0, len }
+}
+
+#[no_mangle]
+pub extern "C" fn guc_css_copy(blob: &[u8], which: u32, dst: &mut [u8]) -> Copied
+    ensures { λ r. ⌜ copied r (now (dst .exit)) ≡ cssCopy which (now (blob .entry)) (now (dst .entry)) ⌝ }
+{
+    match component(which) {
+        Which::None => Copied { code: 101, len: 0 },
+        Which::One(c) => {
+            let a = firmware::css_answer(blob);
+            let part = firmware::css_part(blob, c);
+            copy_out(a.code, part, dst)
+        }
+    }
+}
+
+#[no_mangle]
+pub extern "C" fn guc_huc_copy(blob: &[u8], which: u32, dst: &mut [u8]) -> Copied
+    ensures { λ r. ⌜ copied r (now (dst .exit)) ≡ hucCopy which (now (blob .entry)) (now (dst .entry)) ⌝ }
+{
+    match component(which) {
+        Which::None => Copied { code: 101, len: 0 },
+        Which::One(c) => {
+            let a = firmware::huc_answer(blob);
+            let part = firmware::huc_part(blob, c);
+            copy_out(a.code, part, dst)
+        }
+    }
+}
+
+#[no_mangle]
+pub extern "C" fn guc_cpd_copy(blob: &[u8], name: &[u8], dst: &mut [u8]) -> Copied
+    ensures { λ r. ⌜ copied r (now (dst .exit)) ≡ cpdCopy (now (blob .entry)) (now (name .entry)) (now (dst .entry)) ⌝ }
+{
+    let code = firmware::cpd_answer(blob, name);
+    let part = firmware::cpd_part(blob, name);
+    copy_out(code, part, dst)
+}
