@@ -1,6 +1,6 @@
 -- The steps of a receive and a whole receive (document 01, 'Steps of a send and a receive'): the number first, then the effect by it.
 use Prim.Native.Nat.{ℕ, zero, suc, _+_, _-_, _%_}
-use mathlib.Core.Bool.{Bool, _||_, cond}
+use mathlib.Core.Bool.{_||_, cond}
 use mathlib.Core.List.{List, [], _∷_, _++_}
 use lib.ListN.{length, getD, take, drop, set, replicate}
 use lib.Dec.{eqb, leb, ltb}

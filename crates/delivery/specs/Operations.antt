@@ -4,7 +4,7 @@ use mathlib.Core.Bool.{Bool, true, false}
 use mathlib.Core.List.{List, [], _∷_}
 use Rattle.channel.specs.State.{State}
 use Rattle.channel.specs.Outcome.{Outcome}
-use Rattle.channel.specs.Opening.{Opening, opening}
+use Rattle.channel.specs.Opening.{opening}
 use Rattle.channel.specs.Send
 use Rattle.channel.specs.Receive
 use Rattle.delivery.specs.Plain

@@ -56,13 +56,13 @@ pending [] = false
 pending (m ∷ q) = true
 
 -- '3 if mid-call', else the number c
-abbrev pub lookSend : Sending → ℕ → ℕ
-lookSend notSending c = c
-lookSend (sending k m) c = 3
+abbrev pub unlessSending : Sending → ℕ → ℕ
+unlessSending notSending c = c
+unlessSending (sending k m) c = 3
 
-abbrev pub lookReceive : Receiving → ℕ → ℕ
-lookReceive notReceiving c = c
-lookReceive (receiving k) c = 3
+abbrev pub unlessReceiving : Receiving → ℕ → ℕ
+unlessReceiving notReceiving c = c
+unlessReceiving (receiving k) c = 3
 
 -- '3 if not mid-call', else a number from k and the message
 abbrev pub goOnSend : Sending → (ℕ → List ℕ → ℕ) → ℕ
@@ -85,7 +85,7 @@ withReceive p x =
 
 unfoldable pub sendLookNumber : Plain → List ℕ → ℕ
 sendLookNumber p m =
-    lookSend (p .send) (need (isMessage m) 4 (need (leb (length m) (p .n - 1 - (p .P - p .R))) 10 0))
+    unlessSending (p .send) (need (isMessage m) 4 (need (leb (length m) (p .n - 1 - (p .P - p .R))) 10 0))
 
 -- 'A look answered 0 makes its side mid-call, a send's with that message'
 unfoldable pub sendLookBy : ℕ → Plain → List ℕ → Answer
@@ -96,7 +96,7 @@ sendLook p m = sendLookBy (sendLookNumber p m) p m
 
 -- 'Receive: 11 on an empty queue, else k = 1, L its first message's.'
 unfoldable pub receiveLookNumber : Plain → ℕ
-receiveLookNumber p = lookReceive (p .receive) (need (pending (p .queue)) 11 0)
+receiveLookNumber p = unlessReceiving (p .receive) (need (pending (p .queue)) 11 0)
 
 unfoldable pub receiveLookBy : ℕ → Plain → Answer
 receiveLookBy c p = record { code = c; len = 0; out = []; next = cond (eqb c 0) (withReceive p (receiving 1)) p }
@@ -213,7 +213,7 @@ unfoldable pub receiveRest : ℕ → List ℕ → Answer → Answer
 receiveRest l o x = cond (eqb (x .code) 0) (receivePublish (receiveMoves (l - 1) x .next) o) (beside o x)
 
 unfoldable pub receiveWholeNumber : Plain → List ℕ → ℕ
-receiveWholeNumber p o = lookReceive (p .receive) (need (leb 256 (length o)) 5 0)
+receiveWholeNumber p o = unlessReceiving (p .receive) (need (leb 256 (length o)) 5 0)
 
 unfoldable pub receiveWholeBy : ℕ → Plain → List ℕ → Answer
 receiveWholeBy c p o =
