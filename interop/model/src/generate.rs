@@ -1,0 +1,75 @@
+//! Seeded inputs, arbitrary and near-valid, for every public function.
+//! One seed gives one and the same stream of inputs on every machine.
+
+mod case;
+mod cpd;
+mod css;
+mod list;
+mod message;
+mod state;
+
+pub use case::{buffer_length, case, case_for, disallowed_length};
+pub use cpd::{cpd_case, CpdCase};
+pub use css::css_blob;
+pub use list::{operations, output};
+pub use message::{fields, malformed, message, near_malformed, well_formed, well_formed_of};
+pub use state::{break_state, random_state, receiving, sending};
+
+/// The splitmix64 generator.
+#[derive(Clone, Debug)]
+pub struct Rng(u64);
+
+impl Rng {
+    pub fn new(seed: u64) -> Rng {
+        Rng(seed)
+    }
+
+    pub fn draw(&mut self) -> u64 {
+        self.0 = self.0.wrapping_add(0x9E37_79B9_7F4A_7C15);
+        let mut z = self.0;
+        z = (z ^ (z >> 30)).wrapping_mul(0xBF58_476D_1CE4_E5B9);
+        z = (z ^ (z >> 27)).wrapping_mul(0x94D0_49BB_1331_11EB);
+        z ^ (z >> 31)
+    }
+
+    pub fn word(&mut self) -> u32 {
+        (self.draw() >> 32) as u32
+    }
+
+    /// A number from 0 to `bound` - 1; `bound` at least 1.
+    pub fn below(&mut self, bound: u64) -> u64 {
+        self.draw() % bound
+    }
+
+    /// A number from `low` to `high`, both included.
+    pub fn between(&mut self, low: u64, high: u64) -> u64 {
+        low + self.below(high - low + 1)
+    }
+
+    /// True `part` times in `of`.
+    pub fn chance(&mut self, part: u64, of: u64) -> bool {
+        self.below(of) < part
+    }
+
+    pub fn pick<T: Copy>(&mut self, from: &[T]) -> T {
+        from[self.below(from.len() as u64) as usize]
+    }
+
+    /// Any u32, the ends and powers of two more often.
+    pub fn edgy(&mut self) -> u32 {
+        match self.below(4) {
+            0 => self.pick(&[0, 1, 2, u32::MAX, u32::MAX - 1, 1 << 31, i32::MAX as u32]),
+            1 => 1u32.rotate_left(self.below(32) as u32),
+            2 => self.below(1 << 12) as u32,
+            _ => self.word(),
+        }
+    }
+
+    pub fn words(&mut self, count: usize) -> Vec<u32> {
+        (0..count).map(|_| self.word()).collect()
+    }
+
+    pub fn bytes(&mut self, count: usize) -> Vec<u8> {
+        (0..count).map(|_| self.draw() as u8).collect()
+    }
+}

@@ -1,0 +1,12 @@
+//! An independent model of 01-scope.md, the other side of differential tests.
+//! Written from the paper alone: plain code, no cleverness, no outside crates.
+
+#![forbid(unsafe_code)]
+
+pub mod channel;
+pub mod cpd;
+pub mod css;
+pub mod generate;
+pub mod message;
+pub mod plain;
+pub mod run;

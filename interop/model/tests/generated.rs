@@ -1,0 +1,159 @@
+//! Generated inputs: every number comes up often, and what the paper says of
+//! all answers holds of each (what is left, what the state becomes, L).
+
+use model::channel::{Answer, State, HEAD, STATUS, TAIL};
+use model::generate::{case_for, cpd_case, css_blob, fields, message, well_formed_of, Rng};
+use model::message::{is_message, pack, unpack};
+use model::run::{Case, Op};
+use model::{cpd, css};
+
+/// The numbers a function can answer.
+fn numbers(op: Op) -> &'static [usize] {
+    match op {
+        Op::SendLook | Op::SendWhole => &[0, 1, 2, 3, 4, 6, 7, 8, 10],
+        Op::SendMove | Op::SendPublish | Op::ReceiveMove => &[0, 1, 2, 3, 12],
+        Op::ReceiveLook => &[0, 1, 2, 3, 6, 7, 8, 9, 11],
+        Op::ReceivePublish => &[0, 1, 2, 3, 5, 12, 13],
+        Op::ReceiveWhole => &[0, 1, 2, 3, 5, 6, 7, 8, 9, 11, 13],
+        Op::Open => &[0, 1, 2],
+    }
+}
+
+/// The "Leaves" column, and "The state comes back unchanged, except after 13".
+fn check_refusal(before: &Case, after: &Case, answer: &Answer) {
+    let mut desc = before.desc.clone();
+    match answer.code {
+        7 => desc[STATUS] = 1,
+        8 => desc[STATUS] = 4,
+        9 => desc[STATUS] = 2,
+        13 => desc[HEAD] = answer.next.own,
+        _ => {}
+    }
+    assert_eq!(after.desc, desc);
+    assert_eq!((&after.buf, &after.out), (&before.buf, &before.out));
+    assert_eq!(answer.len, 0);
+    let next = match answer.code {
+        13 => State::idle(before.state.n, answer.next.own),
+        _ if before.op == Op::Open => State::ZERO,
+        _ => before.state,
+    };
+    assert_eq!(answer.next, next);
+}
+
+/// What an accepted call may change.
+fn check_accepted(before: &Case, after: &Case, answer: &Answer) {
+    let changed: Vec<usize> =
+        (0..16).filter(|&at| before.desc[at] != after.desc[at]).collect();
+    let stores = before.buf.iter().zip(&after.buf).filter(|(a, b)| a != b).count();
+    let (places, most): (&[usize], usize) = match before.op {
+        Op::SendMove => (&[], 1),
+        Op::SendPublish => (&[TAIL], 0),
+        Op::SendWhole => (&[TAIL], before.msg.len()),
+        Op::ReceivePublish | Op::ReceiveWhole => (&[HEAD], 0),
+        Op::Open => (&[0, 1, 2, 3, 4, 5, 6, 7, 8, 9, 10, 11, 12, 13, 14, 15], 0),
+        _ => (&[], 0),
+    };
+    assert!(changed.iter().all(|at| places.contains(at)));
+    assert!(stores <= most);
+    let lays = matches!(before.op, Op::ReceivePublish | Op::ReceiveWhole);
+    assert_eq!(answer.len > 0, lays);
+    let laid = answer.len as usize;
+    assert!(!lays || is_message(&after.out[..laid]));
+    assert_eq!(after.out[laid..], before.out[laid..]);
+}
+
+#[test]
+fn every_number_of_every_call() {
+    let mut rng = Rng::new(21);
+    for op in Op::ALL {
+        let mut counts = [0u32; 22];
+        for _ in 0..6000 {
+            let before = case_for(&mut rng, op);
+            let mut after = before.clone();
+            let answer = after.run();
+            counts[answer.code as usize] += 1;
+            assert_eq!((&after.msg, &after.state), (&before.msg, &before.state));
+            if answer.code == 0 {
+                check_accepted(&before, &after, &answer);
+            } else {
+                check_refusal(&before, &after, &answer);
+            }
+        }
+        println!("{op:?}: {counts:?}");
+        for (code, &count) in counts.iter().enumerate() {
+            let expected = numbers(op).contains(&code);
+            assert!(if expected { count >= 60 } else { count == 0 }, "{op:?} {code}: {count}");
+        }
+    }
+}
+
+#[test]
+fn every_number_of_packing() {
+    let mut rng = Rng::new(22);
+    let (mut packed, mut unpacked) = (0, 0);
+    for _ in 0..20000 {
+        let asked = fields(&mut rng);
+        if let Ok((header, word)) = pack(&asked) {
+            packed += 1;
+            let mut whole = well_formed_of(&mut rng, asked.num_dwords as usize + 1);
+            (whole[0], whole[1]) = (header, word);
+            assert_eq!(unpack(&whole), Ok(asked));
+        }
+        let dwords = message(&mut rng);
+        if let Ok(fields) = unpack(&dwords) {
+            unpacked += 1;
+            assert_eq!(pack(&fields), Ok((dwords[0], dwords[1])));
+        }
+    }
+    println!("packed {packed}, unpacked {unpacked} of 20000");
+    assert!((5000..18000).contains(&packed) && (5000..18000).contains(&unpacked));
+}
+
+#[test]
+fn every_number_of_css() {
+    let mut rng = Rng::new(23);
+    let (mut counts, mut truncated) = ([0u32; 22], 0);
+    for _ in 0..20000 {
+        let blob = css_blob(&mut rng);
+        let image = css::locate(&blob);
+        counts[image.code as usize] += 1;
+        truncated += image.truncated as u32;
+        assert_eq!(css::judge(&blob), (image.code, image.truncated));
+        assert_eq!(css::version(&blob).err().unwrap_or(0), image.code);
+        for part in [image.ucode, image.rsa, image.modulus, image.exponent] {
+            assert!(blob.get(part.0..part.1).is_some());
+        }
+    }
+    println!("css: {counts:?}, truncated {truncated}");
+    assert!(truncated > 1000 && counts[0] - truncated > 1000);
+    assert!([15, 16, 17].iter().all(|&code| counts[code] > 1000));
+}
+
+#[test]
+fn every_number_of_cpd() {
+    let mut rng = Rng::new(24);
+    let (mut seek, mut manifest, mut huc) = ([0u32; 22], [0u32; 22], [0u32; 22]);
+    let (mut truncated, mut empty_at_end) = (0, 0);
+    for _ in 0..20000 {
+        let case = cpd_case(&mut rng);
+        let (code, start, end) = cpd::seek(&case.blob, &case.name);
+        assert!(case.blob.get(start..end).is_some());
+        seek[code as usize] += 1;
+        empty_at_end += (code == 0 && start == case.blob.len()) as u32;
+        manifest[cpd::manifest_version(&case.blob).err().unwrap_or(0) as usize] += 1;
+        let image = cpd::huc_locate(&case.blob);
+        huc[image.code as usize] += 1;
+        truncated += image.truncated as u32;
+        assert_eq!(cpd::huc_version(&case.blob).err().unwrap_or(0), image.code);
+        for part in [image.ucode, image.rsa, image.modulus, image.exponent] {
+            assert!(case.blob.get(part.0..part.1).is_some());
+        }
+    }
+    println!("seek: {seek:?}, empty at the end {empty_at_end}");
+    println!("manifest: {manifest:?}");
+    println!("huc_fw: {huc:?}, truncated {truncated}");
+    assert!([0, 14, 15, 18, 19, 20, 21].iter().all(|&code| seek[code] > 200));
+    assert!([0, 15, 18, 19, 20, 21].iter().all(|&code| manifest[code] > 200));
+    assert!([0, 15, 16, 17, 18, 19, 20, 21].iter().all(|&code| huc[code] > 200));
+    assert!(truncated > 200 && empty_at_end > 200);
+}

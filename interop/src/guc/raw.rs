@@ -1,0 +1,150 @@
+//! The archive's functions and structs as include/guc.h declares them.
+
+/// A side's state: n, own, len, moved, then the copy of 256 dwords.
+pub type Words = [u32; 260];
+
+#[repr(C)]
+#[derive(Clone, Copy, Debug, PartialEq, Eq)]
+pub struct Received {
+    pub code: u32,
+    pub len: usize,
+}
+
+#[repr(C)]
+#[derive(Clone, Copy, Debug, PartialEq, Eq)]
+pub struct Packed {
+    pub code: u32,
+    pub header: u32,
+    pub word: u32,
+}
+
+#[repr(C)]
+#[derive(Clone, Copy, Debug, PartialEq, Eq)]
+pub struct Unpacked {
+    pub code: u32,
+    pub origin: u32,
+    pub fence: u32,
+    pub num_dwords: u32,
+    pub kind: u32,
+    pub first: u32,
+    pub second: u32,
+}
+
+#[repr(C)]
+#[derive(Clone, Copy, Debug, PartialEq, Eq)]
+pub struct Css {
+    pub code: u32,
+    pub truncated: u32,
+}
+
+#[repr(C)]
+#[derive(Clone, Copy, Debug, PartialEq, Eq)]
+pub struct Part {
+    pub code: u32,
+    pub start: usize,
+    pub len: usize,
+}
+
+#[repr(C)]
+#[derive(Clone, Copy, Debug, PartialEq, Eq)]
+pub struct Copied {
+    pub code: u32,
+    pub len: usize,
+}
+
+#[repr(C)]
+#[derive(Clone, Copy, Debug, PartialEq, Eq)]
+pub struct Version {
+    pub code: u32,
+    pub major: u32,
+    pub minor: u32,
+    pub patch: u32,
+}
+
+#[repr(C)]
+#[derive(Clone, Copy, Debug, PartialEq, Eq)]
+pub struct Manifest {
+    pub code: u32,
+    pub major: u32,
+    pub minor: u32,
+    pub hotfix: u32,
+    pub build: u32,
+}
+
+/// Dwords that are only read, and their count.
+type In = *const u32;
+/// Bytes that are only read.
+type Bytes = *const u8;
+
+extern "C" {
+    pub fn guc_open(s: *mut Words, r: *mut Words, d: *mut u32, dl: usize, b: In, n: usize) -> u32;
+    pub fn guc_send_look(
+        w: *mut Words,
+        d: *mut u32,
+        dl: usize,
+        b: In,
+        n: usize,
+        m: In,
+        ml: usize,
+    ) -> u32;
+    pub fn guc_send_store(w: *mut Words, d: In, dl: usize, b: *mut u32, n: usize) -> u32;
+    pub fn guc_send_publish(w: *mut Words, d: *mut u32, dl: usize, b: In, n: usize) -> u32;
+    pub fn guc_send(
+        w: *mut Words,
+        d: *mut u32,
+        dl: usize,
+        b: *mut u32,
+        n: usize,
+        m: In,
+        ml: usize,
+    ) -> u32;
+    pub fn guc_receive_look(w: *mut Words, d: *mut u32, dl: usize, b: In, n: usize) -> u32;
+    pub fn guc_receive_copy(w: *mut Words, d: In, dl: usize, b: In, n: usize) -> u32;
+    pub fn guc_receive_publish(
+        w: *mut Words,
+        d: *mut u32,
+        dl: usize,
+        b: In,
+        n: usize,
+        o: *mut u32,
+        ol: usize,
+    ) -> Received;
+    pub fn guc_receive(
+        w: *mut Words,
+        d: *mut u32,
+        dl: usize,
+        b: In,
+        n: usize,
+        o: *mut u32,
+        ol: usize,
+    ) -> Received;
+
+    pub fn guc_pack(
+        origin: u32,
+        fence: u32,
+        num_dwords: u32,
+        kind: u32,
+        first: u32,
+        second: u32,
+    ) -> Packed;
+    pub fn guc_unpack(m: In, ml: usize) -> Unpacked;
+
+    pub fn guc_css_answer(b: Bytes, bl: usize) -> Css;
+    pub fn guc_css_part(b: Bytes, bl: usize, which: u32) -> Part;
+    pub fn guc_css_copy(b: Bytes, bl: usize, which: u32, dst: *mut u8, room: usize) -> Copied;
+    pub fn guc_css_version(b: Bytes, bl: usize) -> Version;
+    pub fn guc_cpd_part(b: Bytes, bl: usize, name: Bytes, nl: usize) -> Part;
+    pub fn guc_cpd_copy(
+        b: Bytes,
+        bl: usize,
+        name: Bytes,
+        nl: usize,
+        dst: *mut u8,
+        room: usize,
+    ) -> Copied;
+    pub fn guc_manifest_version(b: Bytes, bl: usize) -> Manifest;
+    pub fn guc_huc_answer(b: Bytes, bl: usize) -> Css;
+    pub fn guc_huc_part(b: Bytes, bl: usize, which: u32) -> Part;
+    pub fn guc_huc_copy(b: Bytes, bl: usize, which: u32, dst: *mut u8, room: usize) -> Copied;
+    pub fn guc_huc_version(b: Bytes, bl: usize) -> Version;
+}

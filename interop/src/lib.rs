@@ -1,0 +1,18 @@
+//! Differential tests of libguc.a: the same generated input goes to the archive
+//! and to the independent model, and everything either answers or leaves is
+//! compared.
+
+#![deny(unsafe_code)]
+
+pub mod archive;
+pub mod big;
+pub mod calls;
+pub mod firmware;
+pub mod guc;
+pub mod lent;
+pub mod lists;
+pub mod messages;
+pub mod runner;
+pub mod same;
+pub mod table;
+pub mod tally;

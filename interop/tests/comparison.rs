@@ -1,0 +1,70 @@
+//! The comparison itself: a short run of every group, and that writes outside
+//! a lent slice and differing values are seen.
+
+use interop::lent::{bytes, words};
+use interop::runner::{run_group, run_one, GROUPS};
+use interop::same::{same, same_lent, same_slice};
+use interop::tally::{number, place, Tally, FUNCTIONS, NUMBERS};
+use model::generate::Rng;
+
+#[test]
+fn every_group_for_a_moment() {
+    for (index, group) in GROUPS.iter().enumerate() {
+        let cases = if group.name == "big" { 4 } else { 200 };
+        let (tally, differences) = run_group(3, index, cases, 1);
+        assert!(differences.is_empty(), "seed 3: {differences:?}");
+        let calls: u64 = FUNCTIONS.iter().map(|(fun, ..)| tally.calls(*fun)).sum();
+        assert!(calls >= cases, "{} counts its calls", group.name);
+    }
+}
+
+#[test]
+fn a_case_repeats() {
+    let mut tallies = [Tally::default(), Tally::default()];
+    for tally in &mut tallies {
+        (0..50).for_each(|case| run_one(9, 0, case, tally).expect("no difference"));
+    }
+    assert_eq!(format!("{:?}", tallies[0]), format!("{:?}", tallies[1]));
+}
+
+#[test]
+fn guards_and_slices() {
+    let mut rng = Rng::new(1);
+    let lent = words(&mut rng, &[1, 2, 3]);
+    assert_eq!(lent.get(), [1, 2, 3]);
+    assert!(same_lent("words", &lent, &[1, 2, 3]).is_ok());
+    assert!(same_lent("words", &lent, &[1, 2, 4]).is_err());
+    assert!(same_lent("words", &lent, &[1, 2]).is_err());
+    let empty = bytes(&mut rng, &[]);
+    assert!(empty.get().is_empty() && empty.intact());
+    assert!(same("number", 3, 3).is_ok() && same("number", 3, 4).is_err());
+    assert!(same_slice("words", &[0u32], &[1]).unwrap_err().contains("[0]"));
+}
+
+#[test]
+fn both_kinds_of_places() {
+    let mut rng = Rng::new(2);
+    for count in [0usize, 1, 16, 260, 1024, 2048] {
+        let contents = rng.words(count);
+        let kinds: Vec<bool> = (0..300)
+            .map(|_| {
+                let mut lent = words(&mut rng, &contents);
+                assert!(same_lent("words", &lent, &contents).is_ok());
+                lent.get_mut().fill(7);
+                assert!(lent.intact() && lent.get().iter().all(|word| *word == 7));
+                lent.paged()
+            })
+            .collect();
+        assert!(kinds.contains(&true) && kinds.contains(&false));
+    }
+}
+
+#[test]
+fn numbers_have_places() {
+    let codes: Vec<u32> = (0..NUMBERS).map(number).collect();
+    assert_eq!(codes[21..], [21, 100, 101]);
+    assert!(codes.iter().enumerate().all(|(at, code)| place(*code) == Some(at)));
+    assert_eq!((place(22), place(99), place(102)), (None, None, None));
+    let empty = Tally::default().missing();
+    assert!(empty.iter().any(|line| line == "guc_receive never answered 9"));
+}
