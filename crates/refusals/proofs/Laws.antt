@@ -1,0 +1,66 @@
+-- Laws of lists of numbers, and of what leaves the reserved words of a descriptor alone. Assumes nothing.
+use Prim.Native.Nat.{ℕ, _<_}
+use mathlib.Core.Path.{_≡_, refl, sym, ap, _∙_}
+use mathlib.Core.Bool.{Bool, true, false, cond}
+use mathlib.Core.List.{List}
+use native.Mathlib.Omega.{arith}
+use lib.ListN.{length, getD, set}
+use lib.Seq.{drop-set-lt, getD-take, take-set-lt}
+use lib.Dec.{eqb}
+use borrow.Author.Tests.{eqb-true}
+use Rattle.channel.specs.Ring.{HEAD, STATUS, head, tail, status}
+use Rattle.channel.specs.Numbers.{need}
+use Rattle.channel.proofs.Chains.{cases, true-false}
+use Rattle.refusals.specs.Refusals.{leaves, oneOf, reserved, unreserved}
+
+-- a chain answers one of the list where its first test's number and the rest of it do
+pub one-need : (may : List ℕ) (t : Bool) (k r : ℕ) → oneOf may k ≡ true → oneOf may r ≡ true → oneOf may (need t k r) ≡ true
+unfolding need
+one-need may true k r p q = q
+one-need may false k r p q = p
+
+-- one of the list is none that is not in it
+pub not-one : (may : List ℕ) (c k : ℕ) → oneOf may c ≡ true → oneOf may k ≡ false → eqb c k ≡ false
+not-one may c k p q =
+    cases (eqb c k) (λ t. true-false (sym p ∙ ap (oneOf may) (eqb-true c k t) ∙ q)) (λ t. t)
+
+-- two descriptors that differ in reserved words alone
+pub record Alike (d e : List ℕ) : Type 0 where
+  pub size : length d ≡ length e
+  pub front : unreserved d ≡ unreserved e
+  pub heads : head d ≡ head e
+  pub tails : tail d ≡ tail e
+  pub statuses : status d ≡ status e
+
+pub alike : (d e : List ℕ) → length d ≡ length e → unreserved d ≡ unreserved e → Alike d e
+alike d e l f =
+    let at : (i : ℕ) → i < 3 → getD d i 0 ≡ getD e i 0 =
+    λ i h. sym (getD-take 3 d i 0 h) ∙ ap (λ (x : List ℕ). getD x i 0) f ∙ getD-take 3 e i 0 h in
+    record { size = l; front = f; heads = at 0 (omega arith); tails = at 1 (omega arith); statuses = at 2 (omega arith) }
+
+-- a change of a descriptor that neither heeds nor changes reserved words
+pub record Mild (f : List ℕ → List ℕ) : Type 0 where
+  pub rest : (d : List ℕ) → reserved (f d) ≡ reserved d
+  pub front : (d e : List ℕ) → unreserved d ≡ unreserved e → unreserved (f d) ≡ unreserved (f e)
+
+pub mild-none : Mild (λ (d : List ℕ). d)
+mild-none = record { rest = λ d. refl; front = λ d e p. p }
+
+pub mild-set : (i v : ℕ) → i < 3 → Mild (λ (d : List ℕ). set d i v)
+mild-set i v h =
+    record {
+      rest = λ d. drop-set-lt 3 d i v h;
+      front = λ d e p. take-set-lt 3 d i v h ∙ ap (λ (l : List ℕ). set l i v) p ∙ sym (take-set-lt 3 e i v h);
+    }
+
+mild-cond : (t : Bool) (f g : List ℕ → List ℕ) → Mild f → Mild g → Mild (λ (d : List ℕ). cond t (f d) (g d))
+mild-cond true f g m n = m
+mild-cond false f g m n = n
+
+-- what a refusal leaves is one
+pub mild-leaves : (c past : ℕ) → Mild (leaves c past)
+unfolding leaves
+mild-leaves c past =
+    mild-cond (eqb c 7) _ _ (mild-set STATUS _ (omega arith))
+    (mild-cond (eqb c 8) _ _ (mild-set STATUS _ (omega arith))
+    (mild-cond (eqb c 9) _ _ (mild-set STATUS _ (omega arith)) (mild-cond (eqb c 13) _ _ (mild-set HEAD _ (omega arith)) mild-none)))

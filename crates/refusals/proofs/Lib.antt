@@ -1,0 +1,4 @@
+pub mod Laws
+pub mod Says
+pub mod Sends
+pub mod Receives

@@ -1,0 +1,219 @@
+-- The calls of a receive, and opening, say what Demand1 asks. Assumes nothing.
+use Prim.Native.Nat.{ℕ, _+_, _%_}
+use mathlib.Core.Path.{_≡_, refl, ap, _∙_}
+use mathlib.Core.Bool.{Bool, true, false}
+use mathlib.Core.List.{List, [], _++_}
+use native.Mathlib.Omega.{arith}
+use lib.ListN.{length, getD, take, drop, set}
+use lib.Dec.{eqb}
+use borrow.Author.Tests.{eqb-true, ne-eqb}
+use Rattle.channel.specs.AtOnce.{lengthAt, messageAt, receiveBy, receiveNumber, takeNumber}
+use Rattle.channel.specs.Numbers.{entry, found, marked, need, receiveFound}
+use Rattle.channel.specs.Opening.{openBy, openNumber, opening}
+use Rattle.channel.specs.Ring.{HEAD}
+use Rattle.channel.specs.State.{State, idle, idleAt}
+use Rattle.channel.specs.Receive
+use Rattle.channel.proofs.Chains.{cases}
+use Rattle.channel.proofs.ReceiveAtOnce.{receive-at-once, receiveOutcome}
+use Rattle.refusals.specs.Refusals.{OpeningSays, Says, comesBack, goesOn, leaves, none, noOutput, oneOf, openings, receiveLooks, receivePublishes, wholeReceives}
+use Rattle.refusals.proofs.Laws.{Alike, mild-none, mild-set, not-one, one-need}
+use Rattle.refusals.proofs.Says.{Accepts, refusal, says}
+use Rattle.refusals.proofs.Sends.{one-on}
+
+-- ---- look and move
+
+module _ (s : State) (b : List ℕ) where
+  look-one : (d : List ℕ) → oneOf receiveLooks (Receive.lookNumber s d b) ≡ true
+  unfolding oneOf Receive.lookNumber entry receiveFound found
+  look-one d =
+      let next = one-need receiveLooks in
+      next _ 1 _ refl (next _ 2 _ refl (next _ 3 _ refl (next _ 6 _ refl (next _ 7 _ refl (next _ 8 _ refl (next _ 9 _ refl (next _ 11 _ refl refl)))))))
+
+  look-alike : (d e : List ℕ) → Alike d e → Receive.lookNumber s d b ≡ Receive.lookNumber s e b
+  unfolding Receive.lookNumber
+  look-alike d e a = rw (a .size, a .heads, a .tails, a .statuses)
+
+  look-refuses : (c : ℕ) (d : List ℕ) → eqb c 0 ≡ false → oneOf receiveLooks c ≡ true → Receive.lookBy c s d b ≡ refusal c none s noOutput b d
+  unfolding Receive.lookBy marked leaves comesBack oneOf
+  look-refuses c d z p = rw (z, not-one receiveLooks c 13 p refl)
+
+  look-accepts : Accepts (λ (d : List ℕ). Receive.lookBy 0 s d b)
+  unfolding Receive.lookBy marked
+  look-accepts =
+      record {
+        len = 0;
+        next = Receive.loaded s (getD b (s .own) 0);
+        change = λ d. d;
+        buf = b;
+        out = [];
+        is-mild = mild-none;
+        same = λ d. refl;
+      }
+
+  pub receive-look : Says receiveLooks none s noOutput b (λ (d : List ℕ). Receive.look s d b)
+  receive-look =
+      says _ _ _ _ _ _ (λ d. Receive.lookNumber s d b) (λ c d. Receive.lookBy c s d b)
+      (λ d. refl) look-one look-alike look-accepts look-refuses
+
+  move-one : (d : List ℕ) → oneOf goesOn (Receive.moveNumber s d b) ≡ true
+  unfolding Receive.moveNumber
+  move-one d = one-on _ _ _ _
+
+  move-alike : (d e : List ℕ) → Alike d e → Receive.moveNumber s d b ≡ Receive.moveNumber s e b
+  unfolding Receive.moveNumber
+  move-alike d e a = rw (a .size)
+
+  move-refuses : (c : ℕ) (d : List ℕ) → eqb c 0 ≡ false → oneOf goesOn c ≡ true → Receive.moveBy c s d b ≡ refusal c none s noOutput b d
+  unfolding Receive.moveBy leaves comesBack oneOf
+  move-refuses c d z p =
+      rw (z, not-one goesOn c 7 p refl, not-one goesOn c 8 p refl, not-one goesOn c 9 p refl, not-one goesOn c 13 p refl)
+
+  move-accepts : Accepts (λ (d : List ℕ). Receive.moveBy 0 s d b)
+  unfolding Receive.moveBy
+  move-accepts =
+      record {
+        len = 0;
+        next = Receive.moved s (getD b (Receive.place s b) 0);
+        change = λ d. d;
+        buf = b;
+        out = [];
+        is-mild = mild-none;
+        same = λ d. refl;
+      }
+
+  pub receive-move : Says goesOn none s noOutput b (λ (d : List ℕ). Receive.move s d b)
+  receive-move =
+      says _ _ _ _ _ _ (λ d. Receive.moveNumber s d b) (λ c d. Receive.moveBy c s d b)
+      (λ d. refl) move-one move-alike move-accepts move-refuses
+
+-- ---- publish and whole, which may answer 13
+
+module _ (s : State) (o b : List ℕ) where
+  publish-one : (d : List ℕ) → oneOf receivePublishes (Receive.publishNumber s o d b) ≡ true
+  unfolding oneOf Receive.publishNumberOf entry
+  publish-one d =
+      let next = one-need receivePublishes in
+      next _ 1 _ refl (next _ 2 _ refl (next _ 3 _ refl (next _ 5 _ refl (next _ 12 _ refl (next _ 13 _ refl refl)))))
+
+  publish-alike : (d e : List ℕ) → Alike d e → Receive.publishNumber s o d b ≡ Receive.publishNumber s o e b
+  publish-alike d e a = rw (a .size)
+
+  publish-13 : (d : List ℕ) → Receive.publishBy 13 s o d b ≡ refusal 13 (s .len) s o b d
+  unfolding Receive.publishBy leaves comesBack
+  publish-13 d = refl
+
+  publish-other :
+      (c : ℕ) (d : List ℕ) → eqb c 0 ≡ false → oneOf receivePublishes c ≡ true → eqb c 13 ≡ false
+      → Receive.publishBy c s o d b ≡ refusal c (s .len) s o b d
+  unfolding Receive.publishBy leaves comesBack oneOf
+  publish-other c d z p t =
+      rw (z, t, not-one receivePublishes c 7 p refl, not-one receivePublishes c 8 p refl, not-one receivePublishes c 9 p refl)
+
+  publish-refuses :
+      (c : ℕ) (d : List ℕ) → eqb c 0 ≡ false → oneOf receivePublishes c ≡ true
+      → Receive.publishBy c s o d b ≡ refusal c (s .len) s o b d
+  publish-refuses c d z p =
+      cases (eqb c 13)
+      (λ t.
+      let e : c ≡ 13 = eqb-true c 13 t in
+      rw e (publish-13 d))
+      (publish-other c d z p)
+
+  publish-accepts : Accepts (λ (d : List ℕ). Receive.publishBy 0 s o d b)
+  unfolding Receive.publishBy
+  publish-accepts =
+      record {
+        len = s .len;
+        next = idleAt (s .n) (Receive.past s b);
+        change = λ d. set d HEAD (Receive.past s b);
+        buf = b;
+        out = take (s .len) (s .copy) ++ drop (s .len) o;
+        is-mild = mild-set HEAD (Receive.past s b) (omega arith);
+        same = λ d. refl;
+      }
+
+  pub receive-publish : Says receivePublishes (s .len) s o b (λ (d : List ℕ). Receive.publish s o d b)
+  receive-publish =
+      says _ _ _ _ _ _ (λ d. Receive.publishNumber s o d b) (λ c d. Receive.publishBy c s o d b)
+      (λ d. refl) publish-one publish-alike publish-accepts publish-refuses
+
+  -- the number of a whole receive at once, and its outcome by it
+  whole-number : List ℕ → ℕ
+  whole-number d = receiveNumber (takeNumber (idle (length b) s) (s .own) (length o) d (length b) (getD b (s .own) 0)) (s .own) b
+
+  take-one : (d : List ℕ) → oneOf wholeReceives (takeNumber (idle (length b) s) (s .own) (length o) d (length b) (getD b (s .own) 0)) ≡ true
+  unfolding oneOf takeNumber entry receiveFound found
+  take-one d =
+      let next = one-need wholeReceives in
+      next _ 1 _ refl (next _ 2 _ refl (next _ 3 _ refl (next _ 5 _ refl (next _ 6 _ refl (next _ 7 _ refl (next _ 8 _ refl (next _ 9 _ refl (next _ 11 _ refl refl))))))))
+
+  then-13 : (c : ℕ) → oneOf wholeReceives c ≡ true → oneOf wholeReceives (receiveNumber c (s .own) b) ≡ true
+  unfolding oneOf receiveNumber
+  then-13 c p =
+      cases (eqb c 0) (λ t. rw t (one-need wholeReceives _ 13 0 refl refl)) (λ t. rw t p)
+
+  whole-one : (d : List ℕ) → oneOf wholeReceives (whole-number d) ≡ true
+  unfolding whole-number
+  whole-one d = then-13 _ (take-one d)
+
+  whole-alike : (d e : List ℕ) → Alike d e → whole-number d ≡ whole-number e
+  unfolding whole-number takeNumber
+  whole-alike d e a = rw (a .size, a .heads, a .tails, a .statuses)
+
+  whole-13 : (d : List ℕ) → receiveOutcome s (receiveBy 13 (s .own) o d b) ≡ refusal 13 (lengthAt (s .own) b) s o b d
+  unfolding receiveBy leaves comesBack
+  whole-13 d = refl
+
+  whole-other :
+      (c : ℕ) (d : List ℕ) → eqb c 0 ≡ false → eqb c 13 ≡ false
+      → receiveOutcome s (receiveBy c (s .own) o d b) ≡ refusal c (lengthAt (s .own) b) s o b d
+  unfolding receiveBy marked leaves comesBack
+  whole-other c d z t = rw (z, t)
+
+  whole-refuses :
+      (c : ℕ) (d : List ℕ) → eqb c 0 ≡ false → oneOf wholeReceives c ≡ true
+      → receiveOutcome s (receiveBy c (s .own) o d b) ≡ refusal c (lengthAt (s .own) b) s o b d
+  whole-refuses c d z p =
+      cases (eqb c 13)
+      (λ t.
+      let e : c ≡ 13 = eqb-true c 13 t in
+      rw e (whole-13 d))
+      (whole-other c d z)
+
+  whole-accepts : Accepts (λ (d : List ℕ). receiveOutcome s (receiveBy 0 (s .own) o d b))
+  unfolding receiveBy
+  whole-accepts =
+      record {
+        len = lengthAt (s .own) b;
+        next = idleAt (s .n) ((s .own + lengthAt (s .own) b) % length b);
+        change = λ d. set d HEAD ((s .own + lengthAt (s .own) b) % length b);
+        buf = b;
+        out = messageAt (s .own) b ++ drop (lengthAt (s .own) b) o;
+        is-mild = mild-set HEAD ((s .own + lengthAt (s .own) b) % length b) (omega arith);
+        same = λ d. refl;
+      }
+
+  pub receive-whole : Says wholeReceives (lengthAt (s .own) b) s o b (λ (d : List ℕ). Receive.whole s o d b)
+  unfolding whole-number
+  receive-whole =
+      says _ _ _ _ _ _ whole-number (λ c d. receiveOutcome s (receiveBy c (s .own) o d b))
+      (λ d. receive-at-once s o d b) whole-one whole-alike whole-accepts whole-refuses
+
+-- ---- opening
+
+opening-one : (d n : ℕ) → oneOf openings (openNumber d n) ≡ true
+unfolding oneOf openNumber
+opening-one d n =
+    let next = one-need openings in
+    next _ 1 _ refl (next _ 2 _ refl refl)
+
+pub opens : (d b : List ℕ) → OpeningSays d b (opening d b)
+unfolding openBy
+opens d b =
+    record {
+      answers = opening-one (length d) (length b);
+      buffer = refl;
+      descriptor = λ z. rw (ne-eqb (openNumber (length d) (length b)) 0 z);
+      sender = λ z. rw (ne-eqb (openNumber (length d) (length b)) 0 z);
+      receiver = λ z. rw (ne-eqb (openNumber (length d) (length b)) 0 z);
+    }
