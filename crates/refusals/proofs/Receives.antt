@@ -1,14 +1,14 @@
 -- The calls of a receive, and opening, say what Demand1 asks. Assumes nothing.
 use Prim.Native.Nat.{ℕ, _+_, _%_}
-use mathlib.Core.Path.{_≡_, refl, ap, _∙_}
-use mathlib.Core.Bool.{Bool, true, false}
+use mathlib.Core.Path.{_≡_, refl}
+use mathlib.Core.Bool.{true, false}
 use mathlib.Core.List.{List, [], _++_}
 use native.Mathlib.Omega.{arith}
 use lib.ListN.{length, getD, take, drop, set}
 use lib.Dec.{eqb}
 use borrow.Author.Tests.{eqb-true, ne-eqb}
 use Rattle.channel.specs.AtOnce.{lengthAt, messageAt, receiveBy, receiveNumber, takeNumber}
-use Rattle.channel.specs.Numbers.{entry, found, marked, need, receiveFound}
+use Rattle.channel.specs.Numbers.{entry, found, marked, receiveFound}
 use Rattle.channel.specs.Opening.{openBy, openNumber, opening}
 use Rattle.channel.specs.Ring.{HEAD}
 use Rattle.channel.specs.State.{State, idle, idleAt}

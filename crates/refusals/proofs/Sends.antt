@@ -5,12 +5,11 @@ use mathlib.Core.Bool.{Bool, true, false}
 use mathlib.Core.List.{List, []}
 use native.Mathlib.Omega.{arith}
 use lib.ListN.{length, getD, set}
-use lib.Dec.{eqb, leb}
-use Rattle.channel.specs.AtOnce.{send, sendBy}
+use lib.Dec.{eqb}
+use Rattle.channel.specs.AtOnce.{sendBy}
 use Rattle.channel.specs.Numbers.{entry, found, marked, need, sendFound}
-use Rattle.channel.specs.Outcome.{Outcome}
 use Rattle.channel.specs.Ring.{TAIL, stored}
-use Rattle.channel.specs.State.{State, activeSend, idle, idleAt}
+use Rattle.channel.specs.State.{State, idleAt}
 use Rattle.channel.specs.Send
 use Rattle.channel.proofs.SendAtOnce.{send-at-once, sendOutcome}
 use Rattle.refusals.specs.Refusals.{Says, comesBack, goesOn, leaves, none, noOutput, oneOf, sendLooks}
