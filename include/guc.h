@@ -23,6 +23,8 @@
  *   push onto the same stack, as in a kernel built with -mno-red-zone, call it
  *   only while nothing can interrupt on that stack, or link an archive built
  *   without a red zone.
+ * - No indirect branch tracking for this code: it has jump tables, and no
+ *   endbr64 behind them.
  * - Saved SSE2 state: the code uses SSE2 registers. In Linux that means
  *   kernel_fpu_begin() before a call and kernel_fpu_end() after it.
  * - Pointers that are never null, not even for count 0: there any non-null

@@ -1,5 +1,5 @@
 -- Messages for C: numbers in the place of enums, and zeros where a refusal answers nothing.
-use Prim.Native.Nat.{ℕ}
+use Prim.Native.Nat.{ℕ, _-_}
 use mathlib.Core.Bool.{Bool, true, _&&_, cond}
 use mathlib.Core.List.{List, [], _∷_}
 use mathlib.Core.Option.{Option, none, some, Option·elim}
@@ -48,10 +48,10 @@ packing origin fence num t first second =
     (packedBy (packAnswer (record { origin = originOf origin; fence = fence; «num_dwords» = num; body = b })))
     (notPacked 14))
 
--- the numbers that a body carries, in the order of its fields; 0 for a field that its type does not have
+-- the number in field n of those that a body carries, counted from 0; 0 for a field that its type does not have
 unfoldable pub nth : ℕ → List Entry → ℕ
 nth n [] = 0
-nth n (x ∷ xs) = cond (eqb n 0) (x .1) (nth 0 xs)
+nth n (x ∷ xs) = cond (eqb n 0) (x .1) (nth (n - 1) xs)
 
 -- what a decoded message says, in numbers
 unfoldable pub saidBy : Message → Unpacked
