@@ -1,14 +1,16 @@
 -- Which states fit: idle ones and active ones, of either side. Assumes nothing.
-use Prim.Native.Nat.{ℕ, _≤_, _<_}
+use Prim.Native.Nat.{ℕ, _-_, _≤_, _<_}
 use mathlib.Core.Path.{_≡_, refl}
 use mathlib.Core.Bool.{true, false, _&&_}
-use mathlib.Core.List.{List}
+use mathlib.Core.List.{List, _++_}
 use native.Mathlib.Omega.{arith}
-use lib.ListN.{getD}
+use lib.ListN.{length, getD, replicate, length-replicate}
 use lib.Dec.{eqb, ltb}
 use borrow.Author.Tests.{eqb-true, lt-ltb, le-leb, eq-eqb, ne-eqb}
 use Rattle.message.specs.Header.{totalLength, wellFormed}
 use Rattle.message.proofs.Tests.{and-l, and-r}
+use Rattle.ring.specs.Ring.{laid}
+use Rattle.ring.proofs.Straight.{drop-replicate}
 use Rattle.channel.specs.State.{State, activeReceive, activeSend, allZero, idle, idleAt, zeros}
 
 module _ (n o : ℕ) (h : o < n) where
@@ -48,3 +50,8 @@ module _ (n o : ℕ) (h : o < n) where
 pub idle-same : (n : ℕ) (s : State) → idle n s ≡ true → s .n ≡ n
 unfolding idle
 idle-same n s e = eqb-true (s .n) n (search (and-l, and-r))
+
+-- a message laid over a copy of zeros: 'a look leaves zeros in the copy's other places'
+pub loaded-zeros : (m : List ℕ) → length m ≤ 256 → laid m zeros ≡ m ++ replicate (256 - length m) 0
+unfolding laid zeros
+loaded-zeros m h = rw (length-replicate, le-leb (length m) 256 h, drop-replicate)

@@ -1,10 +1,6 @@
-pub mod Chains
-pub mod Ring
-pub mod Found
+pub mod Going
+pub mod Zeros
 pub mod Fits
 pub mod SendAtOnce
-pub mod Taken
 pub mod ReceiveAtOnce
 pub mod Steps
-pub mod Runs
-pub mod InWords

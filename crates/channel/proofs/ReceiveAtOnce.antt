@@ -10,17 +10,17 @@ use lib.Seq.{set-at, append-snoc, take-at}
 use lib.Dec.{eqb, leb, ltb}
 use borrow.Author.Tests.{eqb-true, le-leb, lt-ltb}
 use Rattle.message.specs.Header.{totalLength, wellFormed}
-use Rattle.channel.specs.AtOnce.{AtOnce, ended, receive, receiveBy, receiveNumber, takeNumber}
-use Rattle.channel.specs.Numbers.{entry, marked, need}
+use Rattle.ring.specs.AtOnce.{AtOnce, ended, receive, receiveBy, receiveNumber}
+use Rattle.ring.specs.Numbers.{entry, foundWith, marked, need, receiveLookNumber, takeNumber}
 use Rattle.channel.specs.Outcome.{Outcome}
-use Rattle.channel.specs.Ring.{allowed, head, status, tail, window}
+use Rattle.ring.specs.Ring.{allowed, head, status, tail, window}
 use Rattle.channel.specs.State.{State, activeReceive, header, idle, idleAt, second}
 use Rattle.channel.specs.Receive
-use Rattle.channel.specs.declared.state.Ended.{Ended}
-use Rattle.channel.proofs.Chains.{cases, ok, tested}
+use Rattle.ring.specs.declared.sending.Ended.{Ended}
+use Rattle.ring.proofs.Chains.{cases, ok, tested}
 use Rattle.channel.proofs.Fits.{busy-active-receive, idle-same}
-use Rattle.channel.proofs.Ring.{window-append, window-at, window-length}
-use Rattle.channel.proofs.Taken.{found-accepted, found-not-13, total-high, total-low}
+use Rattle.ring.proofs.Ring.{window-append, window-at, window-length}
+use Rattle.ring.proofs.Taken.{found-accepted, found-not-13, total-high, total-low}
 
 -- the outcome of a whole receive, with the state s before it
 abbrev pub receiveOutcome : State → AtOnce → Outcome
@@ -160,7 +160,7 @@ look-refused s o d b c z t = rw (z, z, t)
 module _ (s : State) (o d b : List ℕ) where
   -- what the descriptor and the header say, and the number of a whole receive but for 13
   f : ℕ
-  f = Receive.foundWith (s .own) d (length b) (getD b (s .own) 0)
+  f = foundWith (s .own) d (length b) (getD b (s .own) 0)
 
   taken : ℕ
   taken = takeNumber (idle (length b) s) (s .own) (length o) d (length b) (getD b (s .own) 0)
@@ -186,7 +186,7 @@ module _ (s : State) (o d b : List ℕ) where
 
 -- 'A whole .. receive that 1 to 5 don't refuse equals its steps run one after another'
 pub receive-at-once : (s : State) (o d b : List ℕ) → Receive.whole s o d b ≡ receiveOutcome s (receive (idle (length b) s) (s .own) o d b)
-unfolding Same taken f Receive.wholeNumber Receive.lookNumber takeNumber entry need marked
+unfolding Same taken f Receive.wholeNumber receiveLookNumber takeNumber entry need marked
 receive-at-once s o d b =
     cases (eqb (length d) 16)
     (λ t₁. cases (allowed (length b))

@@ -11,65 +11,22 @@ use lib.Dec.{eqb, leb, ltb}
 use borrow.Author.Tests.{eqb-true, eq-eqb, le-leb, lt-ltb, leb-true}
 use Rattle.message.specs.Header.{isMessage}
 use Rattle.message.proofs.Formed.{message-formed, message-length, message-long, message-short}
-use Rattle.channel.specs.AtOnce.{AtOnce, ended, send, sendBy}
-use Rattle.channel.specs.Numbers.{entry, found, marked, need, sendFound}
+use Rattle.ring.specs.AtOnce.{AtOnce, ended, send, sendBy}
+use Rattle.ring.specs.Numbers.{entry, found, marked, need, sendFound}
 use Rattle.channel.specs.Outcome.{Outcome}
-use Rattle.channel.specs.Ring.{TAIL, free, head, status, stored, tail, used}
+use Rattle.ring.specs.Ring.{TAIL, free, head, status, stored, tail, used}
 use Rattle.channel.specs.State.{State, activeSend, idle, idleAt}
 use Rattle.channel.specs.Send
-use Rattle.channel.specs.declared.state.Ended.{Ended}
-use Rattle.channel.proofs.Chains.{Entered, cases, entered, entered-fits, entered-rest, passed, passed-rest, tested}
+use Rattle.ring.specs.declared.sending.Ended.{Ended}
+use Rattle.ring.proofs.Chains.{Entered, cases, entered, entered-fits, entered-rest, passed, passed-rest, tested}
 use Rattle.channel.proofs.Fits.{idle-same}
-use Rattle.channel.proofs.Found.{found-rest, none-found}
-use Rattle.channel.proofs.Ring.{stored-length, stored-take}
+use Rattle.ring.proofs.Sent.{Accepted, accepted}
+use Rattle.ring.proofs.Ring.{stored-length, stored-take}
 
 -- a whole send that is accepted, as an outcome with the state s before it
 abbrev pub sendOutcome : State → AtOnce → Outcome
 sendOutcome s x =
     record { code = x .code; len = x .len; next = cond (eqb (x .code) 0) (idleAt (s .n) (x .own)) s; desc = x .desc; buf = x .buf; out = x .out }
-
--- what an accepted look of a send has: for a state that fits, an own tail, and a ring of n dwords
-pub record Accepted (fits : Bool) (own : ℕ) (m d : List ℕ) (n : ℕ) : Type 0 where
-  pub enters : Entered (length d) n
-  pub is-fit : fits ≡ true
-  pub is-message : isMessage m ≡ true
-  pub own-tail : own ≡ tail d
-  pub below : own < n
-  pub room : length m < n
-
-module _ (fits : Bool) (own : ℕ) (m d : List ℕ) (n : ℕ) (e : Send.numberAt fits own m d n ≡ 0) where
-  rest : ℕ
-  rest = need (isMessage m) 4 (sendFound n own (length m) (status d) (head d) (tail d))
-
-  e₁ : rest ≡ 0
-  unfolding Send.numberAt rest
-  e₁ = entered-rest (length d) n fits rest 0 refl refl refl e
-
-  e₂ : sendFound n own (length m) (status d) (head d) (tail d) ≡ 0
-  unfolding rest
-  e₂ = passed-rest (isMessage m) 4 (sendFound n own (length m) (status d) (head d) (tail d)) 0 refl e₁
-
-  fits-free : ℕ
-  fits-free = need (leb (length m) (free n (head d) (tail d))) 10 0
-
-  e₃ : found n own (tail d) (status d) (head d) (tail d) fits-free ≡ 0
-  unfolding sendFound fits-free
-  e₃ = e₂
-
-  pub accepted : Accepted fits own m d n
-  unfolding Send.numberAt rest free fits-free
-  accepted =
-      let f = none-found n own (tail d) (status d) (head d) (tail d) fits-free e₃ in
-      let z : fits-free ≡ 0 = found-rest n own (tail d) (status d) (head d) (tail d) fits-free e₃ in
-      let r : length m ≤ n - 1 - used n (head d) (tail d) = leb-true (length m) (n - 1 - used n (head d) (tail d)) (passed (leb (length m) (free n (head d) (tail d))) 10 0 0 refl z) in
-      record {
-        enters = entered (length d) n fits rest 0 refl refl refl e;
-        is-fit = entered-fits (length d) n fits rest 0 refl refl refl e;
-        is-message = passed (isMessage m) 4 (sendFound n own (length m) (status d) (head d) (tail d)) 0 refl e₁;
-        own-tail = f .same;
-        below = omega (arith, f .same, f .tail);
-        room = omega (arith, f .tail);
-      }
 
 module _ (s : State) (m d b : List ℕ) where
   -- a send after its look and k stores

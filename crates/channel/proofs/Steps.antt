@@ -1,16 +1,20 @@
 -- What the proofs of a receive's publish share. Assumes nothing.
-use Prim.Native.Nat.{ℕ, _-_, _≤_}
+use Prim.Native.Nat.{ℕ, zero, suc, _-_, _≤_}
 use mathlib.Core.Path.{_≡_, refl, sym, ap, _∙_}
 use mathlib.Core.Bool.{Bool, true, false, not, _&&_, _||_, true≢false}
-use mathlib.Core.List.{List, _++_}
-use native.Mathlib.Nat.{sub-zero}
-use lib.ListN.{length, take, drop}
+use mathlib.Core.List.{List, [], _∷_, _++_}
+use native.Mathlib.Omega.{arith}
+use lib.ListN.{length, getD, take, drop}
 use lib.Seq.{length-take-le}
-use lib.Dec.{eqb}
-use borrow.Author.Tests.{leb-true, eqb-true, ne-eqb}
-use Rattle.channel.specs.State.{State}
+use lib.Dec.{eqb, leb}
+use borrow.Author.Tests.{leb-true, eqb-true, ne-eqb, le-leb}
+use Rattle.message.specs.Header.{wellFormed}
+use Rattle.message.proofs.Formed.{well-formed}
+use Rattle.channel.specs.State.{State, activeReceive, header, second}
 use Rattle.channel.specs.Receive.{publishNumberOf}
-use Rattle.channel.proofs.Chains.{passed, entered-rest, Going, going-receive}
+use Rattle.ring.proofs.Chains.{passed, passed-rest, entered-fits, entered-rest}
+use Rattle.ring.specs.Ring.{laid}
+use Rattle.channel.proofs.Going.{Going, going-receive, receive-active}
 
 -- whether a receive's publish moves HEAD: its number is 0 or 13
 pub moves-head : (c : ℕ) (t : Bool) → (not (eqb c 0) && not (eqb c 13)) ≡ t → (eqb c 0 || eqb c 13) ≡ not t
@@ -45,6 +49,32 @@ module _ (s : State) (o d n c : ℕ) (e : c ≡ publishNumberOf s o d n) (t : (e
   publish-room =
       leb-true 256 o (passed _ 5 _ c (other 5 c t refl) (entered-rest d n _ _ c (other 1 c t refl) (other 2 c t refl) (other 3 c t refl) (sym e)))
 
--- the first l dwords of a copy, lent as a part of it, laid at the front of an output
-pub laid-front : (l : ℕ) (m o x : List ℕ) → l ≤ length m → x ≡ take (l - 0) m ++ drop (length (take (l - 0) m)) o → x ≡ take l m ++ drop l o
-laid-front l m o x h e = simp (sub-zero, length-take-le l m h) at e
+-- an accepted publish has a message of at least two dwords
+pub publish-long : (s : State) (o d n : ℕ) → publishNumberOf s o d n ≡ 0 → 2 ≤ s .len
+unfolding publishNumberOf
+publish-long s o d n e =
+    let a = receive-active n s (entered-fits d n (activeReceive n s) _ 0 refl refl refl e) in
+    let r = passed-rest (leb 256 o) 5 _ 0 refl (entered-rest d n (activeReceive n s) _ 0 refl refl refl e) in
+    let f = passed (wellFormed (header s) (second s)) 13 0 0 refl (passed-rest (leb (s .len) (s .moved)) 12 _ 0 refl r) in
+    omega (arith, a .agrees, well-formed (header s) (second s) f .low)
+
+-- the first l dwords of a copy, of which two are taken by themselves
+two-of : (l : ℕ) (m : List ℕ) → 2 ≤ l → l ≤ length m → getD m 0 0 ∷ getD m 1 0 ∷ take (l - 2) (drop 2 m) ≡ take l m
+two-of zero m a b = absurd (omega arith)
+two-of (suc zero) m a b = absurd (omega arith)
+two-of (suc (suc l)) [] a b = absurd (omega arith)
+two-of (suc (suc l)) (x ∷ []) a b = absurd (omega arith)
+two-of (suc (suc l)) (x ∷ y ∷ m) a b = let e : suc (suc l) - 2 ≡ l = omega arith in rw e
+
+-- dwords for which there is room
+laid-there : (xs o : List ℕ) → length xs ≤ length o → laid xs o ≡ xs ++ drop (length xs) o
+unfolding laid
+laid-there xs o h = rw (le-leb (length xs) (length o) h)
+
+-- laid at the front of an output
+pub laid-copy :
+    (l : ℕ) (m o : List ℕ) → 2 ≤ l → l ≤ length m → l ≤ length o
+    → laid (getD m 0 0 ∷ getD m 1 0 ∷ take (l - 2) (drop 2 m)) o ≡ take l m ++ drop l o
+laid-copy l m o a b r =
+    let e : length (take l m) ≡ l = length-take-le l m b in
+    ap (λ (x : List ℕ). laid x o) (two-of l m a b) ∙ laid-there (take l m) o (omega arith) ∙ rw e

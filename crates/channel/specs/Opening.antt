@@ -4,10 +4,10 @@ use mathlib.Core.Bool.{cond}
 use mathlib.Core.List.{List}
 use lib.ListN.{length, replicate}
 use lib.Dec.{eqb}
-use Rattle.channel.specs.Ring.{allowed}
+use Rattle.ring.specs.Ring.{allowed}
 use Rattle.channel.specs.State.{State, idleAt, ofSender, ofReceiver}
-use Rattle.channel.specs.Numbers.{need}
-use Rattle.channel.specs.declared.state.Opened.{Opened}
+use Rattle.ring.specs.Numbers.{need}
+use Rattle.channel.specs.declared.opening.Opened.{Opened}
 
 -- the number, both sides' states, the descriptor and the buffer
 pub record Opening : Type 0 where

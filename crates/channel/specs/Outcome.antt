@@ -2,9 +2,9 @@
 use Prim.Native.Nat.{ℕ}
 use mathlib.Core.List.{List, []}
 use Rattle.channel.specs.State.{State, ofSender, ofReceiver}
-use Rattle.channel.specs.declared.state.Sent.{Sent}
-use Rattle.channel.specs.declared.state.Looked.{Looked}
-use Rattle.channel.specs.declared.state.Received.{Received}
+use Rattle.channel.specs.declared.sending.Sent.{Sent}
+use Rattle.channel.specs.declared.receiving.Looked.{Looked}
+use Rattle.channel.specs.declared.receiving.Received.{Received}
 
 -- the number, L (0 where the answer has none), the next state, the descriptor, the buffer and the output (no dword where none is
 -- lent)

@@ -5,18 +5,14 @@ use mathlib.Core.List.{List, [], _∷_, _++_}
 use lib.ListN.{length, getD, take, drop, set, replicate}
 use lib.Dec.{eqb, leb, ltb}
 use Rattle.message.specs.Header.{totalLength, wellFormed}
-use Rattle.channel.specs.Ring.{HEAD, head, tail, status}
+use Rattle.ring.specs.Ring.{HEAD}
 use Rattle.channel.specs.State.{State, idleAt, idle, activeReceive, header, second}
-use Rattle.channel.specs.Numbers.{need, entry, receiveFound, marked}
+use Rattle.ring.specs.Numbers.{need, entry, receiveLookNumber, marked}
 use Rattle.channel.specs.Outcome.{Outcome, refused}
 
--- 'look (read STATUS, HEAD, TAIL and, if not empty, the header, ..)': what the descriptor and a header at an own head say
-abbrev pub foundWith : ℕ → List ℕ → ℕ → ℕ → ℕ
-foundWith own d n h = receiveFound n own (status d) (head d) (tail d) h
-
-unfoldable pub lookNumber : State → List ℕ → List ℕ → ℕ
-lookNumber s d b =
-    entry (length d) (length b) (idle (length b) s) (foundWith (s .own) d (length b) (getD b (s .own) 0))
+-- 'look (read STATUS, HEAD, TAIL and, if not empty, the header, ..)': 1, 2 and 3, then what the descriptor and the header at the own head say
+abbrev pub lookNumber : State → List ℕ → List ℕ → ℕ
+lookNumber s d b = receiveLookNumber (idle (length b) s) (s .own) d (length b) (getD b (s .own) 0)
 
 -- 'the header, which counts as the first dword copied'
 abbrev pub loaded : State → ℕ → State

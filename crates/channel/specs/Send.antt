@@ -1,21 +1,17 @@
 -- The steps of a send and a whole send (document 01, 'Steps of a send and a receive'): the number first, then the effect by it.
 -- Document 01's terms for the steps are look, move and publish.
 use Prim.Native.Nat.{ℕ, zero, suc, _+_, _-_, _%_}
-use mathlib.Core.Bool.{Bool, cond}
+use mathlib.Core.Bool.{cond}
 use mathlib.Core.List.{List, [], _++_}
 use lib.ListN.{length, getD, set, replicate}
 use lib.Dec.{eqb, leb, ltb}
-use Rattle.message.specs.Header.{isMessage}
-use Rattle.channel.specs.Ring.{TAIL, head, tail, status}
+use Rattle.ring.specs.Ring.{TAIL}
 use Rattle.channel.specs.State.{State, idleAt, idle, activeSend}
-use Rattle.channel.specs.Numbers.{need, entry, sendFound, marked}
+use Rattle.ring.specs.Numbers.{need, entry, marked}
+use Rattle.ring.specs.AtOnce.{numberAt}
 use Rattle.channel.specs.Outcome.{Outcome, refused}
 
--- 'look (judge the message, read STATUS, HEAD, TAIL)': 1 to 4, then what the descriptor says, for a state that fits or not and an own tail
-unfoldable pub numberAt : Bool → ℕ → List ℕ → List ℕ → ℕ → ℕ
-numberAt fits own m d n =
-    entry (length d) n fits (need (isMessage m) 4 (sendFound n own (length m) (status d) (head d) (tail d)))
-
+-- 'look (judge the message, read STATUS, HEAD, TAIL)': 1 to 4, then what the descriptor says
 abbrev pub lookNumber : State → List ℕ → List ℕ → List ℕ → ℕ
 lookNumber s m d b = numberAt (idle (length b) s) (s .own) m d (length b)
 

@@ -5,8 +5,9 @@ use mathlib.Core.List.{List, [], _∷_}
 use lib.ListN.{getD, replicate}
 use lib.Dec.{eqb, leb, ltb}
 use Rattle.message.specs.Header.{totalLength, wellFormed}
-use Rattle.channel.specs.declared.state.Sender.{Sender}
-use Rattle.channel.specs.declared.state.Receiver.{Receiver}
+use Rattle.channel.specs.declared.state.Counts.{Counts}
+use Rattle.channel.specs.declared.sending.Sender.{Sender}
+use Rattle.channel.specs.declared.receiving.Receiver.{Receiver}
 
 -- what a side keeps between its steps: the N that it was made for, its own offset, L, the dwords moved, and 'its own copy of the
 -- message (up to 256 dwords)'
@@ -19,6 +20,13 @@ pub record State : Type 0 where
 
 abbrev pub state : ℕ → ℕ → ℕ → ℕ → List ℕ → State
 state n own len moved copy = record { n = n; own = own; len = len; moved = moved; copy = copy }
+
+-- its four numbers, and the state of four numbers and a copy
+abbrev pub countsOf : State → Counts
+countsOf s = record { n = s .n; own = s .own; len = s .len; moved = s .moved }
+
+abbrev pub counted : Counts → List ℕ → State
+counted c copy = state (c .n) (c .own) (c .len) (c .moved) copy
 
 -- the state in each struct: the same five fields
 unfoldable pub ofSender : Sender → State

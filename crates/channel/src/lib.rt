@@ -1,17 +1,20 @@
-// One command transport buffer (CTB) in one direction: its opening, its sender and its receiver.
-mod memory;
-mod numbers;
+// One command transport buffer (CTB) in one direction: its opening, and the steps and whole calls of its sender and its receiver, with states by value.
 mod opening;
 mod receiving;
 mod sending;
 mod state;
-pub mod words;
 
+pub use opening::Opened;
+pub use opening::clear;
 pub use opening::open_channel;
-pub use state::Ended;
-pub use state::Looked;
-pub use state::Opened;
-pub use state::Received;
-pub use state::Receiver;
-pub use state::Sender;
-pub use state::Sent;
+pub use opening::open_number;
+pub use receiving::Looked;
+pub use receiving::Received;
+pub use receiving::Receiver;
+pub use sending::Sender;
+pub use sending::Sent;
+pub use state::Counts;
+pub use state::fits_idle;
+pub use state::publish_number;
+pub use state::receiving_number;
+pub use state::sending_number;

@@ -2,19 +2,27 @@
 ghost use mathlib.Core.Path.{_≡_};
 ghost use lib.ListN.{length, replicate};
 ghost use Rattle.channel.specs.Opening.{opened, opening, openNumber};
-use crate::numbers::allowed;
-use crate::numbers::refuse;
-use crate::state::Opened;
-use crate::state::Receiver;
-use crate::state::Sender;
+use crate::receiving::Receiver;
+use crate::sending::Sender;
+use ring::allowed;
+use ring::refuse;
 
-pub(crate) fn open_number(descriptor: usize, n: usize) -> u32
+// What opening answers.
+pub struct Opened {
+    pub code: u32,
+    pub sender: Sender,
+    pub receiver: Receiver,
+}
+
+// 1, then 2, with the lengths of the descriptor and the buffer.
+pub fn open_number(descriptor: usize, n: usize) -> u32
     ensures { λ r. ⌜ r ≡ openNumber descriptor n ⌝ }
 {
     refuse(descriptor == 16, 1, refuse(allowed(n), 2, 0))
 }
 
-pub(crate) fn clear(words: &mut [u32])
+// Makes the words all zeros.
+pub fn clear(words: &mut [u32])
     ensures { λ _. ⌜ now (words .exit) ≡ replicate (length (now (words .entry))) 0 ⌝ }
 {
     let mut i = 0;

@@ -1,149 +1,112 @@
-// The states of the two sides, when one fits, and what the calls answer.
+// When a state fits, and the numbers of the steps that go on. All of it is judged on plain numbers: a state's four counts and the first dwords of its
+// copy, each taken once by whoever keeps the state.
 ghost use mathlib.Core.Path.{_≡_};
-ghost use Rattle.channel.specs.State.{state, zeros, idleAt, ofSender, ofReceiver, idle, activeSend, activeReceive};
-use crate::memory::all_zero;
-use message::dword_at;
+ghost use mathlib.Core.List.{[], _∷_};
+ghost use Rattle.channel.specs.State.{counted, zeros, allZero, idle, activeSend, activeReceive};
+ghost use Rattle.ring.specs.Numbers.{need, entry};
+ghost use Rattle.channel.specs.Receive.{publishNumberOf};
+use ring::entry;
+use ring::refuse;
 
-// A sender's state: made for a buffer of n dwords, with its own tail. Mid-call it has a copy of the message, of
-// len dwords, of which moved are stored.
-pub struct Sender {
+// The numbers of a state, beside its copy.
+pub struct Counts {
     pub n: usize,
     pub own: usize,
     pub len: usize,
     pub moved: usize,
-    pub copy: [u32; 256],
 }
 
-// A receiver's state: the same with its own head, and a copy of the dwords that it has moved out of the buffer.
-pub struct Receiver {
-    pub n: usize,
-    pub own: usize,
-    pub len: usize,
-    pub moved: usize,
-    pub copy: [u32; 256],
-}
-
-// What a step of a send, or a whole send, answers: document 01's number and the next state.
-pub struct Sent {
-    pub code: u32,
-    pub next: Sender,
-}
-
-// What a receive's look and copy answer.
-pub struct Looked {
-    pub code: u32,
-    pub next: Receiver,
-}
-
-// What a receive's publish, or a whole receive, answers: also the length L of the message laid, 0 where none is.
-pub struct Received {
-    pub code: u32,
-    pub len: usize,
-    pub next: Receiver,
-}
-
-// What opening answers.
-pub struct Opened {
-    pub code: u32,
-    pub sender: Sender,
-    pub receiver: Receiver,
-}
-
-// What a whole call on plain numbers answers: the number, L, and the own offset afterwards.
-pub struct Ended {
-    pub code: u32,
-    pub len: usize,
-    pub own: usize,
-}
-
-// Whether a state of these fields is idle and fits a buffer of n dwords.
-pub(crate) fn fits_idle(
-    n: usize,
-    made: usize,
-    own: usize,
-    len: usize,
-    moved: usize,
-    copy: &[u32],
-) -> bool
-    ensures { λ r. ⌜ r ≡ idle n (state made own len moved (now (copy .entry))) ⌝ }
+// Whether the dwords are all 0: they are joined by `|` and tested once, which the compiler turns into wide loads.
+fn all_zero(s: &[u32]) -> bool
+    ensures { λ r. ⌜ r ≡ allZero (now (s .entry)) ⌝ }
 {
-    (made == n) & (own < n) & (len == 0) & (moved == 0) & all_zero(copy)
-}
-
-// Whether a state of these fields is an active sender's and fits.
-pub(crate) fn fits_sending(
-    n: usize,
-    made: usize,
-    own: usize,
-    len: usize,
-    moved: usize,
-    copy: &[u32],
-) -> bool
-    ensures { λ r. ⌜ r ≡ activeSend n (state made own len moved (now (copy .entry))) ⌝ }
-{
-    let header = dword_at(copy, 0);
-    (made == n)
-        & (own < n)
-        & (2 <= len)
-        & (len <= 256)
-        & (moved <= len)
-        & (len == message::total_length(header))
-        & message::well_formed(header, dword_at(copy, 1))
-}
-
-// Whether a state of these fields is an active receiver's and fits.
-pub(crate) fn fits_receiving(
-    n: usize,
-    made: usize,
-    own: usize,
-    len: usize,
-    moved: usize,
-    copy: &[u32],
-) -> bool
-    ensures { λ r. ⌜ r ≡ activeReceive n (state made own len moved (now (copy .entry))) ⌝ }
-{
-    (made == n)
-        & (own < n)
-        & (1 <= len)
-        & (len <= 256)
-        & (1 <= moved)
-        & (moved <= len)
-        & (len == message::total_length(dword_at(copy, 0)))
+    let mut joined: u32 = 0;
+    let mut i = 0;
+    while i < s.len() {
+        joined = joined | s[i];
+        i += 1;
+    }
+    joined == 0
 }
 
 // A copy of all zeros, which an idle state has.
-fn no_copy() -> [u32; 256]
+pub(crate) fn no_copy() -> [u32; 256]
     ensures { λ r. ⌜ r ≡ zeros ⌝ }
 {
     [0; 256]
 }
 
-impl Sender {
-    // The idle state made for n dwords, at an own offset.
-    pub fn idle_at(n: usize, own: usize) -> Self
-        ensures { λ r. ⌜ ofSender r ≡ idleAt n own ⌝ }
-    {
-        Self {
-            n: n,
-            own: own,
-            len: 0,
-            moved: 0,
-            copy: no_copy(),
-        }
-    }
+// Whether a state is idle and fits a buffer of n dwords.
+pub fn fits_idle(n: usize, s: Counts, copy: &[u32]) -> bool
+    ensures { λ r. ⌜ r ≡ idle n (counted s (now (copy .entry))) ⌝ }
+{
+    (s.n == n) & (s.own < n) & (s.len == 0) & (s.moved == 0) & all_zero(copy)
 }
 
-impl Receiver {
-    // The idle state made for n dwords, at an own offset.
-    pub fn idle_at(n: usize, own: usize) -> Self
-        ensures { λ r. ⌜ ofReceiver r ≡ idleAt n own ⌝ }
-    {
-        Self {
-            n: n,
-            own: own,
-            len: 0,
-            moved: 0,
-            copy: no_copy(),
-        }
-    }
+// Whether a state is an active sender's and fits, by the first two dwords of its copy.
+fn fits_sending(n: usize, s: Counts, header: u32, word: u32) -> bool
+    ensures { λ r. ⌜ r ≡ activeSend n (counted s (header ∷ word ∷ [])) ⌝ }
+{
+    (s.n == n)
+        & (s.own < n)
+        & (2 <= s.len)
+        & (s.len <= 256)
+        & (s.moved <= s.len)
+        & (s.len == message::total_length(header))
+        & message::well_formed(header, word)
+}
+
+// Whether a state is an active receiver's and fits, by the header in its copy.
+fn fits_receiving(n: usize, s: Counts, header: u32) -> bool
+    ensures { λ r. ⌜ r ≡ activeReceive n (counted s (header ∷ [])) ⌝ }
+{
+    (s.n == n)
+        & (s.own < n)
+        & (1 <= s.len)
+        & (s.len <= 256)
+        & (1 <= s.moved)
+        & (s.moved <= s.len)
+        & (s.len == message::total_length(header))
+}
+
+// The number of a step that goes on with a send: 1, 2, 3, then 12 where its own test fails.
+pub fn sending_number(
+    s: Counts,
+    header: u32,
+    word: u32,
+    descriptor: usize,
+    n: usize,
+    test: bool,
+) -> u32
+    ensures { λ r. ⌜ r ≡ entry descriptor n (activeSend n (counted s (header ∷ word ∷ []))) (need test 12 0) ⌝ }
+{
+    entry(
+        descriptor,
+        n,
+        fits_sending(n, s, header, word),
+        refuse(test, 12, 0),
+    )
+}
+
+// The number of a step that goes on with a receive: 1, 2, 3, then the rest.
+pub fn receiving_number(s: Counts, header: u32, descriptor: usize, n: usize, rest: u32) -> u32
+    ensures { λ r. ⌜ r ≡ entry descriptor n (activeReceive n (counted s (header ∷ []))) rest ⌝ }
+{
+    entry(descriptor, n, fits_receiving(n, s, header), rest)
+}
+
+// The number of a receive's publish: 5, 12, then 13, by the first two dwords of the copy.
+pub fn publish_number(
+    s: Counts,
+    header: u32,
+    second: u32,
+    output: usize,
+    descriptor: usize,
+    n: usize,
+) -> u32
+    ensures { λ r. ⌜ r ≡ publishNumberOf (counted s (header ∷ second ∷ [])) output descriptor n ⌝ }
+{
+    let formed = message::well_formed(header, second);
+    let rest = refuse(s.len <= s.moved, 12, refuse(formed, 13, 0));
+    receiving_number(s, header, descriptor, n, refuse(256 <= output, 5, rest))
 }

@@ -20,6 +20,10 @@ wellFormed header word =
     && leb (fieldOf numDwords header) 255
     && known word
 
+-- whether so many dwords that start with these two are a message: well formed, and 'exactly L dwords'
+abbrev pub startsMessage : ℕ → ℕ → ℕ → Bool
+startsMessage len header word = eqb len (totalLength header) && wellFormed header word
+
 -- a caller's message is well formed, and 'must also have exactly L dwords'
 unfoldable pub isMessage : List ℕ → Bool
-isMessage dwords = eqb (length dwords) (totalLength (getD dwords 0 0)) && wellFormed (getD dwords 0 0) (getD dwords 1 0)
+isMessage dwords = startsMessage (length dwords) (getD dwords 0 0) (getD dwords 1 0)

@@ -1,11 +1,9 @@
 // The length of a message and what is well formed: the one place where a type is taken as known.
 ghost use mathlib.Core.Path.{_≡_};
-ghost use mathlib.Core.Bool.{_&&_};
-ghost use lib.Dec.{eqb};
 ghost use lib.ListN.{getD};
 ghost use Rattle.message.specs.Fields.{fieldOf, numDwords, type};
 ghost use Rattle.message.specs.Types.{known};
-ghost use Rattle.message.specs.Header.{totalLength, wellFormed, isMessage};
+ghost use Rattle.message.specs.Header.{totalLength, wellFormed, startsMessage, isMessage};
 
 // The dword at i, or 0 where there is none.
 pub fn dword_at(s: &[u32], i: usize) -> u32
@@ -55,7 +53,7 @@ pub fn well_formed(header: u32, word: u32) -> bool
 
 // Whether that many dwords, of which these are the first two, are one well-formed message.
 pub fn starts_message(len: usize, header: u32, word: u32) -> bool
-    ensures { λ r. ⌜ r ≡ (eqb len (totalLength header) && wellFormed header word) ⌝ }
+    ensures { λ r. ⌜ r ≡ startsMessage len header word ⌝ }
 {
     (len == total_length(header)) & well_formed(header, word)
 }

@@ -3,7 +3,7 @@ use mathlib.Core.Path.{sym, _∙_}
 use borrow.Author.Needs.{needs}
 use borrow.Author.Tests.{ne-eqb}
 use Rattle.channel.specs.Opening.{openBy}
-use Rattle.channel.proofs.Chains.{open-sixteen}
+use Rattle.channel.proofs.Going.{open-sixteen}
 use Rattle.channel.proofs.opening.open_channel.Statement.{statement}
 use Rattle.channel.proofs.opening.open_channel.Tie as tie
 

@@ -1,6 +1,6 @@
--- `state::fits_idle` meets its contract: its tests are the definition's, in the same order. Assumes nothing.
-use borrow.Author.Needs.{needs}
+-- `state::fits_idle` meets its contract: its tests are the definition's. Assumes nothing.
 use Rattle.channel.specs.State.{idle}
+use borrow.Author.Needs.{needs}
 use Rattle.channel.proofs.state.fits_idle.Statement.{statement}
 use Rattle.channel.proofs.state.fits_idle.Tie as tie
 

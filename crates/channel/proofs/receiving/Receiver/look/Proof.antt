@@ -1,0 +1,47 @@
+-- `Receiver::look` meets its contract: the number says whether the header is taken. Assumes nothing.
+use mathlib.Core.Path.{_≡_, sym, ap, _∙_}
+use denote.Ref.{now}
+use borrow.Author.Needs.{needs}
+use borrow.Author.Tests.{ne-eqb}
+use Rattle.ring.specs.Numbers.{marked}
+use Rattle.ring.specs.AtOnce.{seen}
+use Rattle.ring.specs.declared.receiving.Seen.{Seen}
+use Rattle.channel.specs.Receive
+use Rattle.channel.specs.State.{ofReceiver, zeros}
+use Rattle.channel.proofs.receiving.Receiver.look.Statement.{statement}
+use Rattle.channel.proofs.receiving.Receiver.look.Tie as tie
+
+-- what the look answers
+said : (q : tie.After-look-header) → let a = q .before .before .before .before .before .args in q .look-header .result ≡ seen (Receive.lookNumber (ofReceiver (a .self)) (now (a .desc)) (now (a .buf))) (a .self .own) (now (a .buf))
+unfolding ofReceiver
+said q = rw (q .before .before .is-idle .ensures) at (q .look-header .ensures)
+
+returns : tie.Need-returns
+unfolding Receive.lookBy
+returns c =
+    let e = ap (λ (x : Seen). x .code) (said (c .before .before .before .before .before)) in
+    simp (← e, ne-eqb _ _ (c .before .before .before .before .if1 .taken), c .before .before .mark .ensures)
+
+returns-2 : tie.Need-returns-2
+unfolding Receive.lookBy ofReceiver marked zeros
+returns-2 c =
+    let s = said (c .before .before .before) in
+    let a = c .before .before .before .before .before .before .before .before .args in
+    let z : Receive.lookNumber (ofReceiver (a .self)) (now (a .desc)) (now (a .buf)) ≡ 0 = sym (ap (λ (x : Seen). x .code) s) ∙ c .before .before .if1 .left in
+    let h = rw z at (ap (λ (x : Seen). x .header) s) in
+    rw (z, c .total-length .ensures, h, c .before .no-copy .ensures)
+
+pub look-spec : {M : Type 1} → statement M
+look-spec =
+    tie.close
+    (tie.spec
+    (λ c κs. search needs)
+    (λ c κs. search needs)
+    (λ c κs. search needs)
+    (λ c. search needs)
+    returns
+    (λ c κs. search needs)
+    (λ c. search needs)
+    (λ c κs. search needs)
+    (λ c. search needs)
+    returns-2)

@@ -1,0 +1,25 @@
+-- `Receiver::receive` meets its contract: a whole receive at once is its steps one after another. Assumes nothing.
+use mathlib.Core.Bool.{true, false}
+use denote.Ref.{now}
+use borrow.Author.Needs.{needs}
+use Rattle.channel.specs.State.{ofReceiver}
+use Rattle.channel.proofs.Steps.{moves-head}
+use Rattle.channel.proofs.ReceiveAtOnce.{receive-method}
+use Rattle.channel.proofs.receiving.Receiver.receive.Statement.{statement}
+use Rattle.channel.proofs.receiving.Receiver.receive.Tie as tie
+
+returns : tie.Need-returns
+unfolding ofReceiver
+returns c =
+    let a = c .before .before .before .before .before .before .before .before .before .before .before .before .before .before .args in
+    rw (receive-method (ofReceiver (a .self)) (now (a .out)) (now (a .desc)) (now (a .buf)) _ _ _ _ (c .before .before .before .before .before .before .before .before .before .before .is-idle .ensures) (c .before .before .before .before .before .before .before .whole-receive .ensures), moves-head (c .before .before .before .before .before .before .before .whole-receive .result .code) true (c .if1 .taken))
+
+returns-2 : tie.Need-returns-2
+unfolding ofReceiver
+returns-2 c =
+    let a = c .before .before .before .before .before .before .before .before .before .before .before .before .before .before .before .args in
+    rw (receive-method (ofReceiver (a .self)) (now (a .out)) (now (a .desc)) (now (a .buf)) _ _ _ _ (c .before .before .before .before .before .before .before .before .before .before .before .is-idle .ensures) (c .before .before .before .before .before .before .before .before .whole-receive .ensures), moves-head (c .before .before .before .before .before .before .before .before .whole-receive .result .code) false (c .before .if1 .left))
+    (simp (c .idle-at .ensures))
+
+pub receive-spec : {M : Type 1} → statement M
+receive-spec = tie.close (tie.spec (λ c κs. search needs) (λ c κs. search needs) (λ c. search needs) (λ c. search needs) returns (λ c κs. search needs) (λ c. search needs) (λ c. search needs) returns-2)

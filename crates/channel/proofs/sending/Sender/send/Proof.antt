@@ -1,0 +1,25 @@
+-- `Sender::send` meets its contract: a whole send at once is its steps one after another. Assumes nothing.
+use mathlib.Core.Path.{_≡_, sym}
+use denote.Ref.{now}
+use borrow.Author.Needs.{needs}
+use borrow.Author.Tests.{ne-eqb}
+use Rattle.channel.specs.State.{ofSender}
+use Rattle.channel.proofs.SendAtOnce.{send-method}
+use Rattle.channel.proofs.sending.Sender.send.Statement.{statement}
+use Rattle.channel.proofs.sending.Sender.send.Tie as tie
+
+returns : tie.Need-returns
+unfolding ofSender
+returns c =
+    let a = c .before .before .before .before .before .before .before .before .before .before .before .before .before .args in
+    rw (send-method (ofSender (a .self)) (now (a .msg)) (now (a .desc)) (now (a .buf)) _ _ _ _ (c .before .before .before .before .before .before .before .before .before .is-idle .ensures) (c .before .before .before .before .before .before .whole-send .ensures), ne-eqb _ _ (c .if1 .taken))
+
+returns-2 : tie.Need-returns-2
+unfolding ofSender
+returns-2 c =
+    let a = c .before .before .before .before .before .before .before .before .before .before .before .before .before .before .args in
+    rw (send-method (ofSender (a .self)) (now (a .msg)) (now (a .desc)) (now (a .buf)) _ _ _ _ (c .before .before .before .before .before .before .before .before .before .before .is-idle .ensures) (c .before .before .before .before .before .before .before .whole-send .ensures), c .before .if1 .left)
+    (simp (c .idle-at .ensures))
+
+pub send-spec : {M : Type 1} → statement M
+send-spec = tie.close (tie.spec (λ c κs. search needs) (λ c κs. search needs) (λ c. search needs) (λ c. search needs) returns (λ c κs. search needs) (λ c. search needs) (λ c. search needs) returns-2)

@@ -1,0 +1,57 @@
+-- `Sender::store` meets its contract: a number other than 0 leaves all; after 0 the state is active and fits, so
+-- that the place lies in the buffer and the dword in the copy. Assumes nothing.
+use Prim.Native.Nat.{_<_}
+use mathlib.Core.Path.{_≡_, refl, sym, _∙_}
+use native.Mathlib.Omega.{arith}
+use lib.ListN.{length}
+use denote.Ref.{now}
+use borrow.Author.Needs.{needs}
+use borrow.Author.Tests.{ltb-true, ne-eqb}
+use Rattle.channel.specs.Send
+use Rattle.channel.specs.State.{ofSender}
+use Rattle.channel.proofs.Going.{Going, going-place, going-send, going-test}
+use Rattle.channel.proofs.sending.Sender.store.Statement.{statement}
+use Rattle.channel.proofs.sending.Sender.store.Tie as tie
+
+returns : tie.Need-returns
+unfolding Send.moveBy Send.moveNumber ofSender
+returns c = simp (← c .before .go-on-number .ensures, ne-eqb _ _ (c .if1 .taken))
+
+-- what a step that goes on has
+fits : (c : tie.Else1) → let a = c .before .before .before .before .args in Going (length (now (a .buf))) (ofSender (a .t1))
+fits c = going-send _ _ _ _ 0 refl refl refl (sym (c .before .go-on-number .ensures) ∙ c .if1 .left)
+
+below : (c : tie.Else1) → c .before .before .before .before .args .t1 .moved < c .before .before .before .before .args .t1 .len
+below c = ltb-true _ _ (going-test _ _ _ _ (sym (c .before .go-on-number .ensures) ∙ c .if1 .left))
+
+mul-put : tie.Need-mul-put
+unfolding ofSender
+mul-put c = omega (arith, below (c .before .before), fits (c .before .before) .short)
+
+element-copy-out-put : tie.Need-element-copy-out-put
+unfolding ofSender
+element-copy-out-put c = omega (arith, below (c .before .before), fits (c .before .before) .short)
+
+add-next : tie.Need-add-next
+unfolding ofSender
+add-next c = omega (arith, below (c .before .before .before .before .before .before), fits (c .before .before .before .before .before .before) .short)
+
+returns-2 : tie.Need-returns-2
+unfolding Send.moveBy Send.moveNumber ofSender
+returns-2 c =
+    let e = c .before .before .before .before .before .before in
+    simp (← e .before .go-on-number .ensures, e .if1 .left, c .before .before .put .ensures, c .before .before .before .before .past .ensures .0, going-place _ _ (fits e))
+
+pub store-spec : {M : Type 1} → statement M
+store-spec =
+    tie.close
+    (tie.spec
+    (λ c κs. search needs)
+    returns
+    (λ c κs. search needs)
+    mul-put
+    element-copy-out-put
+    (λ c κs. search needs)
+    add-next
+    (λ c. search needs)
+    returns-2)

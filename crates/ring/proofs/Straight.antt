@@ -1,0 +1,186 @@
+-- Runs of dwords: what the loops over them have after a turn, and a run around the ring as one or two straight ones. Assumes nothing.
+use Prim.Native.Nat.{ℕ, zero, suc, _+_, _-_, _%_, _≤_, _<_}
+use mathlib.Core.Path.{_≡_, refl, sym, ap, _∙_}
+use mathlib.Core.List.{List, [], _∷_, _++_, append-assoc, append-nil}
+use native.Mathlib.Nat.{zero-add, add-zero, suc-add, sub-zero, zero-sub, suc-sub-suc, zero-mod, mod-self, mod-mod, mod-eq-of-lt, suc-mod}
+use native.Mathlib.Numerals.{add-one}
+use native.Mathlib.Omega.{arith}
+use lib.ListN.{length, getD, set, take, drop, replicate, drop-of-length-le, take-append-drop, length-append, length-set, length-drop, length-take}
+use lib.Seq.{take-all, take-at, take-suc, drop-cons, drop-drop, drop-append-le, append-snoc, set-at, length-take-le, sets, sets-eq}
+use borrow.Author.Tests.{le-leb, lt-leb}
+use borrow.Rule.Slice.PartMut.{midOf, putMid}
+use Rattle.ring.specs.Ring.{window, stored, laid}
+use Rattle.ring.proofs.Ring.{window-append, window-length, window-mod, stored-length}
+
+-- a turn of the loop that copies src to the front of dst
+pub copied-more : (dst src : List ℕ) (i : ℕ) → i < length src → i < length dst → set (take i src ++ drop i dst) i (getD src i 0) ≡ take (i + 1) src ++ drop (i + 1) dst
+copied-more dst src i h k =
+    rw (add-one, drop-cons dst i 0, take-suc src i 0, append-snoc)
+    (set-at (take i src) _ _ _ _ (length-take-le i src (omega arith)))
+
+-- zeros less some of them are zeros
+pub drop-replicate : (k n x : ℕ) → drop k (replicate n x) ≡ replicate (n - k) x
+drop-replicate zero n x = rw sub-zero
+drop-replicate (suc k) zero x = rw zero-sub
+drop-replicate (suc k) (suc n) x = rw suc-sub-suc (drop-replicate k n x)
+
+-- the part from place k to the end
+pub to-end : (k : ℕ) (xs : List ℕ) → take (length xs - k) (drop k xs) ≡ drop k xs
+to-end k xs = take-all (length xs - k) (drop k xs) (simp length-drop (omega arith))
+
+-- xs copied to the front of the part of k dwords from place a on
+pub put-front : (a k : ℕ) (b xs : List ℕ) → length xs ≤ k → a + k ≤ length b → putMid a k b (xs ++ drop (length xs) (midOf a k b)) ≡ take a b ++ (xs ++ drop (a + length xs) b)
+put-front a k b xs h l =
+    let m : length xs ≤ length (take k (drop a b)) = simp (length-take, length-drop) (omega arith) in
+    rw (append-assoc, ← drop-append-le (length xs) (take k (drop a b)) (drop k (drop a b)), take-append-drop, drop-drop)
+
+-- the place past the end is the front
+around : (n i : ℕ) → i ≡ n → i % n ≡ 0 % n
+around n i e = rw (e, mod-self, zero-mod)
+
+-- a run that ends within the buffer needs no remainders
+stored-sets : (b : List ℕ) (n i : ℕ) (xs : List ℕ) → i + length xs ≤ n → stored b n i xs ≡ sets b i xs
+unfolding stored
+stored-sets b n i [] h = refl
+stored-sets b n i (x ∷ xs) h =
+    let e : i % n ≡ i = mod-eq-of-lt (omega arith) in
+    rw e (stored-sets (set b i x) n (suc i) xs (omega arith))
+
+-- a run that ends within the buffer is stored straight
+pub stored-straight : (b : List ℕ) (n i : ℕ) (xs : List ℕ) → i + length xs ≤ n → n ≤ length b → stored b n i xs ≡ take i b ++ (xs ++ drop (i + length xs) b)
+stored-straight b n i xs h l = stored-sets b n i xs h ∙ sets-eq xs b i (omega arith) ∙ append-assoc (take i b) xs _
+
+-- what is stored goes by the place's remainder
+pub stored-mod : (b : List ℕ) (n i j : ℕ) (xs : List ℕ) → i % n ≡ j % n → stored b n i xs ≡ stored b n j xs
+unfolding stored
+stored-mod b n i j [] e = refl
+stored-mod b n i j (x ∷ xs) e =
+    rw e (stored-mod (set b (j % n) x) n (suc i) (suc j) xs (suc-mod i n ∙ ap (λ k. suc k % n) e ∙ sym (suc-mod j n)))
+
+-- a run in two parts
+pub stored-append : (b : List ℕ) (n i : ℕ) (xs ys : List ℕ) → stored b n i (xs ++ ys) ≡ stored (stored b n i xs) n (i + length xs) ys
+unfolding stored
+stored-append b n i [] ys = ap (λ k. stored b n k ys) (omega arith)
+stored-append b n i (x ∷ xs) ys =
+    stored-append (set b (i % n) x) n (suc i) xs ys ∙ ap (λ k. stored (stored (set b (i % n) x) n (suc i) xs) n k ys) (omega arith)
+
+-- a run of more than the k dwords up to the end goes on at the front
+pub stored-around : (b : List ℕ) (n i k : ℕ) (xs : List ℕ) → i + k ≡ n → k ≤ length xs → stored b n i xs ≡ stored (stored b n i (take k xs)) n 0 (drop k xs)
+stored-around b n i k xs e h =
+    let l : length (take k xs) ≡ k = length-take-le k xs h in
+    ap (stored b n i) (sym (take-append-drop k xs)) ∙ stored-append b n i (take k xs) (drop k xs) ∙ stored-mod _ n _ 0 (drop k xs) (around n _ (omega arith))
+
+-- the buffer after a run of k dwords in the places from i on
+pub stored-run : (b : List ℕ) (i k : ℕ) (xs : List ℕ) → length xs ≡ k → i + k ≤ length b → putMid i k b xs ≡ stored b (length b) i xs
+stored-run b i k xs l h = rw (drop-drop, ← l) (sym (stored-straight b (length b) i xs (omega arith) (omega arith)))
+
+-- the buffer m after the k dwords up to the end, and then the others from its front
+pub stored-second :
+    (b m : List ℕ) (i k j : ℕ) (xs ys : List ℕ) → i + k ≡ length b → k ≤ length xs → length xs ≤ length b → k + j ≡ length xs
+    → m ≡ stored b (length b) i (take k xs) → ys ≡ drop k xs → putMid 0 j m ys ≡ stored b (length b) i xs
+stored-second b m i k j xs ys e h l q w v =
+    let z : length ys ≡ j = ap length v ∙ length-drop k xs ∙ omega arith in
+    let s : length m ≡ length b = ap length w ∙ stored-length b (length b) i (take k xs) in
+    stored-run m 0 j ys z (omega arith) ∙ rw (s, v, w) (sym (stored-around b (length b) i k xs e h))
+
+-- the buffer after one dword
+pub stored-single : (b : List ℕ) (i h : ℕ) → i < length b → set b i h ≡ stored b (length b) i (h ∷ [])
+unfolding stored
+stored-single b i h l = let e : i % length b ≡ i = mod-eq-of-lt l in rw e
+
+-- a message of which the first two dwords are taken by themselves
+pub two-and-rest : (m : List ℕ) → 2 ≤ length m → getD m 0 0 ∷ getD m 1 0 ∷ take (length m - 2) (drop 2 m) ≡ m
+two-and-rest [] h = absurd (omega arith)
+two-and-rest (x ∷ []) h = absurd (omega arith)
+two-and-rest (x ∷ y ∷ r) h = ap (λ (l : List ℕ). x ∷ y ∷ l) (to-end 2 (x ∷ y ∷ r))
+
+-- a message's first dwords and its others
+pub take-two : (h w : ℕ) (r : List ℕ) (k f : ℕ) → k ≡ 2 + f → take k (h ∷ w ∷ r) ≡ h ∷ w ∷ take f r
+take-two h w r k f e = let s : k ≡ suc (suc f) = omega arith in ap (λ (x : ℕ). take x (h ∷ w ∷ r)) s
+
+pub drop-two : (h w : ℕ) (r : List ℕ) (k f : ℕ) → k ≡ 2 + f → drop k (h ∷ w ∷ r) ≡ drop f r
+drop-two h w r k f e = let s : k ≡ suc (suc f) = omega arith in ap (λ (x : ℕ). drop x (h ∷ w ∷ r)) s
+
+-- where a message of 2 + l dwords goes around the end, with more than one place before it: so many are stored there, and so many others follow
+pub wraps : (n i l : ℕ) → i < n → n - i < 2 + l → (n - i ≡ 1 → ⊥) → (i + (n - i) ≡ n) × (n - i ≡ 2 + (n - i - 2)) × (n - i - 2 ≤ l)
+wraps n i l a b c = (omega arith, omega arith, omega arith)
+
+pub stored-wrapped :
+    (b r m y : List ℕ) (h w i k f j : ℕ) → i + k ≡ length b → k ≡ 2 + f → f ≤ length r → j ≡ length r - f → 2 + length r ≤ length b
+    → m ≡ h ∷ w ∷ take f r → y ≡ take (length r - f) (drop f r) → putMid 0 j (putMid i k b m) y ≡ stored b (length b) i (h ∷ w ∷ r)
+stored-wrapped b r m y h w i k f j e two l q s v u =
+    let x : length (take f r) ≡ f = length-take-le f r l in
+    let a : length (h ∷ w ∷ take f r) ≡ k = ap (λ (z : ℕ). suc (suc z)) x ∙ omega arith in
+    let first = ap (putMid i k b) v ∙ stored-run b i k (h ∷ w ∷ take f r) a (omega arith) ∙ ap (stored b (length b) i) (sym (take-two h w r k f two)) in
+    let others = u ∙ to-end f r ∙ sym (drop-two h w r k f two) in
+    stored-second b _ i k j (h ∷ w ∷ r) _ e (omega arith) (omega arith) (omega arith) first others
+
+-- a run that ends within the buffer is read straight
+pub window-straight : (b : List ℕ) (n i k : ℕ) → i + k ≤ n → n ≤ length b → window b n i k ≡ take k (drop i b)
+unfolding window
+window-straight b n i zero h l = refl
+window-straight b n i (suc k) h l =
+    let e : i % n ≡ i = mod-eq-of-lt (omega arith) in
+    let f : i < length b = omega arith in
+    rw (drop-cons b i 0, e, window-straight b n (suc i) k (omega arith) l)
+
+-- a run of more than the k dwords up to the end goes on at the front
+pub window-around : (b : List ℕ) (n i k m : ℕ) → i + k ≡ n → window b n i (k + m) ≡ window b n i k ++ window b n 0 m
+window-around b n i k m e = rw (window-append, window-mod b n (i + k) 0 m (around n (i + k) e))
+
+-- a part of the buffer is what is read there
+pub window-one : (b : List ℕ) (i k l : ℕ) → k ≡ l → i + l ≤ length b → take k (drop i b) ≡ window b (length b) i l
+window-one b i k l e h = rw e (sym (window-straight b (length b) i l h (omega arith)))
+
+-- d is dst after the k dwords up to the end; then the m others go to its places from k on
+pub window-two :
+    (dst b d : List ℕ) (i k m : ℕ) → i + k ≡ length b → k + m ≡ length dst → d ≡ putMid 0 k dst (window b (length b) i k)
+    → putMid k (length d - k) d (window b (length b) 0 m) ≡ window b (length b) i (length dst)
+window-two dst b d i k m p q f =
+    let x : length (window b (length b) i k) ≡ k = window-length b (length b) i k in
+    let z : length d ≡ length dst = ap length f ∙ simp (length-append, length-drop) (omega arith) in
+    let t : take k d ≡ window b (length b) i k = ap (take k) f ∙ take-at _ _ k x in
+    let w : drop (length d - k) (drop k d) ≡ [] = drop-of-length-le (drop k d) {i = length d - k} (simp length-drop (omega arith)) in
+    rw (t, w, append-nil, ← q, window-around b (length b) i k m p)
+
+-- a part from place 2 on, behind two dwords that are stored by themselves
+two-then : (out : List ℕ) (h s len : ℕ) (w : List ℕ) → 2 ≤ len → len ≤ length out → putMid 2 (len - 2) (set (set out 0 h) 1 s) w ≡ h ∷ s ∷ (w ++ drop len out)
+two-then [] h s len w l k = absurd (omega arith)
+two-then (x ∷ []) h s len w l k = absurd (omega arith)
+two-then (x ∷ y ∷ o) h s zero w l k = absurd (omega arith)
+two-then (x ∷ y ∷ o) h s (suc zero) w l k = absurd (omega arith)
+two-then (x ∷ y ∷ o) h s (suc (suc len)) w l k = let e : suc (suc len) - 2 ≡ len = omega arith in rw e
+
+-- a part from place 1 on, behind one dword
+one-then : (out : List ℕ) (h len : ℕ) (w : List ℕ) → 1 ≤ len → len ≤ length out → putMid 1 (len - 1) (set out 0 h) w ≡ h ∷ (w ++ drop len out)
+one-then [] h len w l k = absurd (omega arith)
+one-then (x ∷ o) h zero w l k = absurd (omega arith)
+one-then (x ∷ o) h (suc len) w l k = let e : suc len - 1 ≡ len = omega arith in rw e
+
+-- a run that fills all of dst, behind two dwords and behind one
+pub filled : (dst : List ℕ) (h s : ℕ) (w : List ℕ) → length dst ≡ 2 + length w → putMid 2 (length dst - 2) (set (set dst 0 h) 1 s) w ≡ h ∷ s ∷ w
+filled dst h s w e =
+    let z : drop (length dst) dst ≡ [] = drop-of-length-le dst {i = length dst} (omega arith) in
+    rw (two-then dst h s (length dst) w (omega arith) (omega arith), z, append-nil)
+
+pub filled-tail : (dst : List ℕ) (h : ℕ) (w : List ℕ) → length dst ≡ 1 + length w → putMid 1 (length dst - 1) (set dst 0 h) w ≡ h ∷ w
+filled-tail dst h w e =
+    let z : drop (length dst) dst ≡ [] = drop-of-length-le dst {i = length dst} (omega arith) in
+    rw (one-then dst h (length dst) w (omega arith) (omega arith), z, append-nil)
+
+-- dwords that fill the front of dst are laid there
+pub laid-run : (dst : List ℕ) (k : ℕ) (xs : List ℕ) → length xs ≡ k → k ≤ length dst → putMid 0 k dst xs ≡ laid xs dst
+unfolding laid
+laid-run dst k xs l h = let e : length xs ≤ length dst = omega arith in rw (le-leb _ _ e, l)
+
+-- and those for which there is no room are not
+pub laid-none : (dst xs : List ℕ) → length dst < length xs → dst ≡ laid xs dst
+unfolding laid
+laid-none dst xs h = rw (lt-leb _ _ h)
+
+-- out after the two dwords, and the others of a message that are read from place r of the ring on
+pub laid-behind : (out b : List ℕ) (n h s len own r : ℕ) (w : List ℕ) → 2 ≤ len → len ≤ length out → r ≡ (own + 2) % n → w ≡ window b n r (length (midOf 2 (len - 2) (set (set out 0 h) 1 s))) → putMid 2 (len - 2) (set (set out 0 h) 1 s) w ≡ h ∷ s ∷ (window b n (own + 2) (len - 2) ++ drop len out)
+laid-behind out b n h s len own r w l k e f =
+    let x : length (midOf 2 (len - 2) (set (set out 0 h) 1 s)) ≡ len - 2 = simp (length-take, length-drop, length-set) (omega arith) in
+    let y : r % n ≡ (own + 2) % n = rw e (mod-mod (own + 2) n) in
+    rw (two-then out h s len w l k, f, x, window-mod b n r (own + 2) (len - 2) y)

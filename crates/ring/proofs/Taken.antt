@@ -1,0 +1,172 @@
+-- What the numbers of a receive say: where they accept, and the three answers of a whole receive at once. Assumes nothing.
+use Prim.Native.Nat.{ℕ, suc, _+_, _-_, _%_, _≤_, _<_}
+use mathlib.Core.Path.{_≡_, refl, sym, ap, _∙_}
+use mathlib.Core.Bool.{Bool, true, false, not, _||_}
+use mathlib.Core.List.{List, _∷_, _++_}
+use native.Mathlib.Omega.{arith}
+use native.Mathlib.Nat.{mod-lt, mod-eq-of-lt}
+use lib.ListN.{length, getD, drop, set}
+use lib.Dec.{eqb, leb}
+use borrow.Author.Tests.{leb-true, not-true}
+use Rattle.message.specs.Header.{totalLength, wellFormed}
+use Rattle.ring.specs.AtOnce.{messageAt, receive, receiveBy, receiveNumber}
+use Rattle.ring.specs.Numbers.{entry, found, foundWith, marked, need, pendingNumber, receiveFound, takeNumber}
+use Rattle.ring.specs.Ring.{HEAD, allowed, head, status, tail, used, window}
+use Rattle.ring.proofs.Chains.{Entered, cases, entered, entered-fits, entered-rest, passed, passed-rest}
+use Rattle.ring.proofs.Found.{found-rest, none-found}
+use Rattle.ring.proofs.Ring.{window-at}
+
+-- what a look of a receive finds is never 13
+chain-13 : (a b c d e : Bool) → eqb (need a 6 (need b 7 (need c 8 (need d 9 (need e 11 0))))) 13 ≡ false
+unfolding need
+chain-13 false b c d e = refl
+chain-13 true false c d e = refl
+chain-13 true true false d e = refl
+chain-13 true true true false e = refl
+chain-13 true true true true false = refl
+chain-13 true true true true true = refl
+
+pub found-not-13 : (n own st hd tl h : ℕ) → eqb (receiveFound n own st hd tl h) 13 ≡ false
+unfolding receiveFound found
+found-not-13 n own st hd tl h = chain-13 _ _ _ _ _
+
+-- what an accepted look of a receive has
+pub record Found (n own hd tl h : ℕ) : Type 0 where
+  pub own-head : own ≡ hd
+  pub below : own < n
+  pub whole : totalLength h ≤ used n hd tl
+
+module _ (n own st hd tl h : ℕ) (e : receiveFound n own st hd tl h ≡ 0) where
+  u : ℕ
+  u = used n hd tl
+
+  after-8 : ℕ
+  after-8 = need (eqb u 0 || leb (totalLength h) u) 9 (need (not (eqb u 0)) 11 0)
+
+  same-found : found n own hd st hd tl after-8 ≡ 0
+  unfolding receiveFound after-8 u
+  same-found = e
+
+  after : after-8 ≡ 0
+  after = found-rest n own hd st hd tl after-8 same-found
+
+  in-use : eqb u 0 ≡ false
+  unfolding after-8
+  in-use = not-true (eqb u 0) (passed (not (eqb u 0)) 11 0 0 refl (passed-rest (eqb u 0 || leb (totalLength h) u) 9 _ 0 refl after))
+
+  pub found-accepted : Found n own hd tl h
+  unfolding u after-8
+  found-accepted =
+      let f = none-found n own hd st hd tl after-8 same-found in
+      let l = passed (eqb (used n hd tl) 0 || leb (totalLength h) (used n hd tl)) 9 _ 0 refl after in
+      record { own-head = f .same; below = omega (arith, f .same, f .head); whole = leb-true (totalLength h) (used n hd tl) (rw in-use at l) }
+
+-- L is from 1 to 256
+pub total-low : (h : ℕ) → 1 ≤ totalLength h
+total-low h = omega arith
+
+pub total-high : (h : ℕ) → totalLength h ≤ 256
+total-high h = omega arith
+
+-- what 1 to 11 of a whole receive say where they accept
+pub record Taken (fits : Bool) (own output : ℕ) (d : List ℕ) (n h : ℕ) : Type 0 where
+  pub enters : Entered (length d) n
+  pub is-fit : fits ≡ true
+  pub output-long : 256 ≤ output
+  pub below : own < n
+  pub short : totalLength h < n
+
+module _ (fits : Bool) (own output : ℕ) (d : List ℕ) (n h : ℕ) where
+  pub take-not-13 : eqb (takeNumber fits own output d n h) 13 ≡ false
+  unfolding takeNumber entry need
+  take-not-13 =
+      cases (eqb (length d) 16)
+      (λ a. cases (allowed n)
+      (λ b. cases fits
+      (λ c. cases (leb 256 output) (λ e. rw (a, b, c, e) (found-not-13 n own (status d) (head d) (tail d) h)) (λ e. rw (a, b, c, e)))
+      (λ c. rw (a, b, c)))
+      (λ b. rw (a, b)))
+      (λ a. rw a)
+
+  module _ (e : takeNumber fits own output d n h ≡ 0) where
+    rest₁ : ℕ
+    rest₁ = need (leb 256 output) 5 (foundWith own d n h)
+
+    r₁ : rest₁ ≡ 0
+    unfolding takeNumber rest₁
+    r₁ = entered-rest (length d) n fits rest₁ 0 refl refl refl e
+
+    r₂ : foundWith own d n h ≡ 0
+    unfolding rest₁
+    r₂ = passed-rest (leb 256 output) 5 (foundWith own d n h) 0 refl r₁
+
+    pub taken-has : Taken fits own output d n h
+    unfolding takeNumber rest₁ used
+    taken-has =
+        let g : Entered (length d) n = entered (length d) n fits rest₁ 0 refl refl refl e in
+        let a = found-accepted n own (status d) (head d) (tail d) h r₂ in
+        let u : (tail d + n - head d) % n < n = mod-lt (tail d + n - head d) (omega (arith, g .low)) in
+        record {
+          enters = g;
+          is-fit = entered-fits (length d) n fits rest₁ 0 refl refl refl e;
+          output-long = leb-true 256 output (passed (leb 256 output) 5 (foundWith own d n h) 0 refl r₁);
+          below = a .below;
+          short = omega (arith, a .whole);
+        }
+
+-- a message of at least two dwords, taken apart
+pub window-first-two : (b : List ℕ) (n own l : ℕ) → 2 ≤ l → window b n own l ≡ getD b (own % n) 0 ∷ getD b ((own + 1) % n) 0 ∷ window b n (own + 2) (l - 2)
+unfolding window
+window-first-two b n own l h =
+    let e : l ≡ suc (suc (l - 2)) = omega arith in
+    let f : suc own ≡ own + 1 = omega arith in
+    let g : suc (suc own) ≡ own + 2 = omega arith in
+    ap (window b n own) e ∙ ap (λ (x : ℕ). getD b (own % n) 0 ∷ getD b (x % n) 0 ∷ window b n (suc (suc own)) (l - 2)) f
+    ∙ ap (λ (x : ℕ). getD b (own % n) 0 ∷ getD b ((own + 1) % n) 0 ∷ window b n x (l - 2)) g
+
+-- the two dwords that were judged, and the others, are the message
+pub laid-message :
+    (b : List ℕ) (n own l h s : ℕ) (o : List ℕ) → own < n → 2 ≤ l → h ≡ getD b own 0 → s ≡ getD (window b n own l) 1 0
+    → h ∷ s ∷ window b n (own + 2) (l - 2) ++ drop l o ≡ window b n own l ++ drop l o
+laid-message b n own l h s o below l₂ eh es =
+    let z : getD b (own % n) 0 ≡ getD b own 0 = ap (λ (x : ℕ). getD b x 0) (mod-eq-of-lt below) in
+    let t : s ≡ getD b ((own + 1) % n) 0 = es ∙ window-at b n own l 1 (omega arith) in
+    rw (window-first-two b n own l l₂, z, ← eh, ← t)
+
+-- the three answers of a whole receive at once
+module _ (fits : Bool) (own : ℕ) (o d b : List ℕ) where
+  pub receive-refused :
+      (c : ℕ) → takeNumber fits own (length o) d (length b) (getD b own 0) ≡ c → eqb c 0 ≡ false
+      → receive fits own o d b ≡ record { code = c; len = 0; own = own; desc = marked c d; buf = b; out = o }
+  unfolding receiveNumber receiveBy
+  receive-refused c e z =
+      let t : eqb c 13 ≡ false = ap (λ (x : ℕ). eqb x 13) (sym e) ∙ take-not-13 fits own (length o) d (length b) (getD b own 0) in
+      rw (e, z, z, t)
+
+  module _ (h s l : ℕ) (eh : h ≡ getD b own 0) (el : l ≡ totalLength h) (es : s ≡ getD (window b (length b) own l) 1 0) (e : takeNumber fits own (length o) d (length b) h ≡ 0) where
+    formed-same : wellFormed (getD b own 0) (getD (messageAt own b) 1 0) ≡ wellFormed h s
+    formed-same = rw (es, el, eh)
+
+    taken-same : takeNumber fits own (length o) d (length b) (getD b own 0) ≡ 0
+    taken-same = rw (← eh) e
+
+    pub receive-formed :
+        wellFormed h s ≡ true
+        → receive fits own o d b
+        ≡ record {
+          code = 0;
+          len = l;
+          own = (own + l) % length b;
+          desc = set d HEAD ((own + l) % length b);
+          buf = b;
+          out = window b (length b) own l ++ drop l o;
+        }
+    unfolding receiveNumber receiveBy need
+    receive-formed f = rw (taken-same, formed-same, f, el, eh)
+
+    pub receive-malformed :
+        wellFormed h s ≡ false
+        → receive fits own o d b
+        ≡ record { code = 13; len = 0; own = (own + l) % length b; desc = set d HEAD ((own + l) % length b); buf = b; out = o }
+    unfolding receiveNumber receiveBy need
+    receive-malformed f = rw (taken-same, formed-same, f, el, eh)

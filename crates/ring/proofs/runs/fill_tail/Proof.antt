@@ -1,0 +1,38 @@
+-- `runs::fill_tail` meets its contract: a dword by value, and behind it a run that fills the rest. Assumes nothing.
+use Prim.Native.Nat.{_+_, _-_}
+use mathlib.Core.Path.{_≡_, _∙_}
+use native.Mathlib.Omega.{arith}
+use lib.ListN.{length, set, length-set, length-take, length-drop}
+use borrow.Author.Needs.{needs}
+use borrow.Rule.Slice.PartMut.{same-len-mid}
+use denote.Ref.{now}
+use Rattle.ring.proofs.Straight.{filled-tail}
+use Rattle.ring.proofs.runs.fill_tail.Statement.{statement}
+use Rattle.ring.proofs.runs.fill_tail.Tie as tie
+
+copy-run-requires : tie.Need-copy-run-requires
+copy-run-requires c κs = simp (length-take, length-drop, length-set) (omega arith)
+
+same-length : tie.Need-same-length
+same-length c =
+    let a = c .before .before .before .before .before .before .args in
+    let out = set (now (a .dst)) 0 (a .word) in
+    let l : length out ≡ length (now (a .dst)) = simp length-set in
+    same-len-mid 1 (length (now (a .dst)) - 1) out (c .before .before .copy-run .last .0) (c .before .before .copy-run .kept .0) ∙ l
+
+returns : tie.Need-returns
+returns c =
+    let a = c .before .before .before .before .before .before .args in
+    rw (c .before .before .copy-run .ensures) (filled-tail (now (a .dst)) (a .word) (now (a .rest)) (omega arith))
+
+pub fill-tail-spec : {M : Type 1} → statement M
+fill-tail-spec =
+    tie.close
+    (tie.spec
+    (λ c. search needs)
+    (λ c. search needs)
+    (λ c. search needs)
+    (λ c. search needs)
+    copy-run-requires
+    same-length
+    returns)

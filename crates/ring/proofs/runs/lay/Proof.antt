@@ -1,0 +1,41 @@
+-- `runs::lay` meets its contract: a message for which there is room fills the front of `dst`. Assumes nothing.
+use Prim.Native.Nat.{_+_, _-_}
+use mathlib.Core.List.{_∷_}
+use native.Mathlib.Omega.{arith}
+use lib.ListN.{length}
+use borrow.Author.Needs.{needs}
+use denote.Ref.{now}
+use Rattle.ring.proofs.Straight.{laid-none, laid-run}
+use Rattle.ring.proofs.runs.lay.Statement.{statement}
+use Rattle.ring.proofs.runs.lay.Tie as tie
+
+returns : tie.Need-returns
+returns c =
+    let a = c .before .before .before .args in
+    laid-none (now (a .dst)) (a .header ∷ a .word ∷ now (a .rest)) (omega arith)
+
+returns-2 : tie.Need-returns-2
+returns-2 c =
+    let a = c .before .before .before .before .args in
+    laid-none (now (a .dst)) (a .header ∷ a .word ∷ now (a .rest)) (omega arith)
+
+returns-3 : tie.Need-returns-3
+returns-3 c =
+    let a = c .before .before .before .before .before .before .before .before .args in
+    let k = 2 + length (now (a .rest)) - 0 in
+    rw (c .before .before .fill .ensures) (laid-run (now (a .dst)) k (a .header ∷ a .word ∷ now (a .rest)) (omega arith) (omega arith))
+
+pub lay-spec : {M : Type 1} → statement M
+lay-spec =
+    tie.close
+    (tie.spec
+    returns
+    (λ c. search needs)
+    returns-2
+    (λ c. search needs)
+    (λ c. search needs)
+    (λ c. search needs)
+    (λ c. search needs)
+    (λ c κs. search needs)
+    (λ c. search needs)
+    returns-3)

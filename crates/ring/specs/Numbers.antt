@@ -1,0 +1,67 @@
+-- The numbers that say no (document 01), as chains in the order of the table: 'The lowest number that applies is the answer'.
+-- What a look decides, it decides on numbers alone: N, the own offset, STATUS, HEAD, TAIL, and the length or the header.
+use Prim.Native.Nat.{ℕ}
+use mathlib.Core.Bool.{Bool, true, false, not, _&&_, _||_, cond}
+use mathlib.Core.List.{List}
+use lib.ListN.{length, set}
+use lib.Dec.{eqb, leb, ltb}
+use Rattle.message.specs.Header.{totalLength, startsMessage}
+use Rattle.ring.specs.declared.numbers.InUse.{InUse}
+use Rattle.ring.specs.Ring.{allowed, used, free, STATUS, head, tail, status, good, overflow, underflow, mismatch}
+
+-- the refusal's number where the test fails, else what the rest of the chain says
+unfoldable pub need : Bool → ℕ → ℕ → ℕ
+need true number rest = rest
+need false number rest = number
+
+-- 1 'descriptor is not 16 dwords', 2 'N not allowed', 3 'state doesn't fit': of every step, with the lengths of the descriptor and the buffer
+unfoldable pub entry : ℕ → ℕ → Bool → ℕ → ℕ
+entry descriptor n fits rest = need (eqb descriptor 16) 1 (need (allowed n) 2 (need fits 3 rest))
+
+-- 6 'look finds STATUS not 0', 7 'look finds HEAD or TAIL at least N', 8 'sender's own tail is not TAIL, or receiver's own head is
+-- not HEAD': of every look, with the descriptor's word that is to be the own offset
+unfoldable pub found : ℕ → ℕ → ℕ → ℕ → ℕ → ℕ → ℕ → ℕ
+found n own word status hd tl rest =
+    need (eqb status good) 6 (need (ltb hd n && ltb tl n) 7 (need (eqb own word) 8 rest))
+
+-- a send's look finds: these, then 10 'L exceeds free'
+unfoldable pub sendFound : ℕ → ℕ → ℕ → ℕ → ℕ → ℕ → ℕ
+sendFound n own len status hd tl = found n own tl status hd tl (need (leb len (free n hd tl)) 10 0)
+
+-- a receive's look finds: these, then 9 'ring not empty and L exceeds used', then 11 'nothing pending'
+unfoldable pub receiveFound : ℕ → ℕ → ℕ → ℕ → ℕ → ℕ → ℕ
+receiveFound n own status hd tl header =
+    found n own hd status hd tl
+    (need (eqb (used n hd tl) 0 || leb (totalLength header) (used n hd tl)) 9 (need (not (eqb (used n hd tl) 0)) 11 0))
+
+-- what the descriptor alone says of these, before the header is read ('if not empty, the header'): all but 9
+unfoldable pub pendingNumber : ℕ → ℕ → ℕ → ℕ → ℕ → ℕ
+pendingNumber n own status hd tl = found n own hd status hd tl (need (not (eqb (used n hd tl) 0)) 11 0)
+
+-- and the dwords in use where that is 0
+abbrev pub pendingBy : ℕ → ℕ → ℕ → ℕ → InUse
+pendingBy c n hd tl = record { code = c; used = cond (eqb c 0) (used n hd tl) 0 }
+
+-- the number of a send's look: 1, 2 and 3, then 4 'message to send .. is malformed', then what it finds. With whether the state fits,
+-- the own tail, the message's length and first two dwords, the descriptor and N
+unfoldable pub sendLookNumber : Bool → ℕ → ℕ → ℕ → ℕ → List ℕ → ℕ → ℕ
+sendLookNumber fits own len header word d n =
+    entry (length d) n fits (need (startsMessage len header word) 4 (sendFound n own len (status d) (head d) (tail d)))
+
+-- what a receive's look finds at an own head, with the header that lies there
+abbrev pub foundWith : ℕ → List ℕ → ℕ → ℕ → ℕ
+foundWith own d n header = receiveFound n own (status d) (head d) (tail d) header
+
+-- the number of a receive's look: 1, 2 and 3, then what it finds
+unfoldable pub receiveLookNumber : Bool → ℕ → List ℕ → ℕ → ℕ → ℕ
+receiveLookNumber fits own d n header = entry (length d) n fits (foundWith own d n header)
+
+-- the number of a whole receive but for 13: 1, 2 and 3, then 5 'output shorter than 256', then what its look finds
+unfoldable pub takeNumber : Bool → ℕ → ℕ → List ℕ → ℕ → ℕ → ℕ
+takeNumber fits own output d n header = entry (length d) n fits (need (leb 256 output) 5 (foundWith own d n header))
+
+-- what a look leaves of the descriptor: 7 'STATUS = 1', 8 'STATUS = 4', 9 'STATUS = 2', else all
+unfoldable pub marked : ℕ → List ℕ → List ℕ
+marked c desc =
+    cond (eqb c 7) (set desc STATUS overflow)
+    (cond (eqb c 8) (set desc STATUS mismatch) (cond (eqb c 9) (set desc STATUS underflow) desc))

@@ -1,0 +1,54 @@
+// Single words of lent memory: reads and stores that ask nothing of their caller, and the descriptor's words by their names.
+ghost use mathlib.Core.Path.{_≡_};
+ghost use lib.ListN.{set};
+ghost use Rattle.ring.specs.Ring.{HEAD, TAIL};
+ghost use Rattle.ring.specs.Numbers.{marked};
+
+// The descriptor's words.
+pub(crate) const HEAD: usize = 0;
+
+pub(crate) const TAIL: usize = 1;
+
+pub(crate) const STATUS: usize = 2;
+
+pub fn wide(x: u32) -> usize
+    ensures { λ r. ⌜ r ≡ x ⌝ }
+{
+    x as usize
+}
+
+// Stores v at i, or nothing where there is no such place.
+pub fn put(s: &mut [u32], i: usize, v: u32)
+    ensures { λ _. ⌜ now (s .exit) ≡ set (now (s .entry)) i v ⌝ }
+{
+    if i < s.len() {
+        s[i] = v;
+    }
+}
+
+// Sets STATUS after 7, 8 and 9: overflow, mismatch and underflow.
+pub fn mark(desc: &mut [u32], code: u32)
+    ensures { λ _. ⌜ now (desc .exit) ≡ marked code (now (desc .entry)) ⌝ }
+{
+    if code == 7 {
+        put(desc, STATUS, 1);
+    } else if code == 8 {
+        put(desc, STATUS, 4);
+    } else if code == 9 {
+        put(desc, STATUS, 2);
+    }
+}
+
+// Publishes the tail that storing a message returned. It is lent no ring: what it publishes is in the ring already.
+pub fn publish_tail(desc: &mut [u32], tail: u32)
+    ensures { λ _. ⌜ now (desc .exit) ≡ set (now (desc .entry)) TAIL tail ⌝ }
+{
+    put(desc, TAIL, tail);
+}
+
+// Publishes the head that laying a message returned. It is lent neither ring nor output: what it releases has been read.
+pub fn publish_head(desc: &mut [u32], head: u32)
+    ensures { λ _. ⌜ now (desc .exit) ≡ set (now (desc .entry)) HEAD head ⌝ }
+{
+    put(desc, HEAD, head);
+}

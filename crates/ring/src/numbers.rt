@@ -1,0 +1,120 @@
+// The decisions that the calls share, as functions of plain numbers.
+ghost use mathlib.Core.Path.{_≡_};
+ghost use Prim.Native.Nat.{_<_};
+ghost use Rattle.ring.specs.Ring.{allowed, used, past};
+ghost use Rattle.ring.specs.Numbers.{need, entry, found, sendFound, pendingNumber, pendingBy};
+
+// The refusal's number where the test fails, else the rest's.
+pub fn refuse(test: bool, number: u32, rest: u32) -> u32
+    ensures { λ r. ⌜ r ≡ need test number rest ⌝ }
+{
+    if test { rest } else { number }
+}
+
+// Whether a buffer may have n dwords.
+pub fn allowed(n: usize) -> bool
+    ensures { λ r. ⌜ r ≡ allowed n ⌝ }
+{
+    (n % 1024 == 0) & (1024 <= n) & (n <= 16384)
+}
+
+// 1, 2 and 3, which every step judges first, with the lengths of the descriptor and the buffer.
+pub fn entry(descriptor: usize, n: usize, fits: bool, rest: u32) -> u32
+    ensures { λ r. ⌜ r ≡ entry descriptor n fits rest ⌝ }
+{
+    refuse(
+        descriptor == 16,
+        1,
+        refuse(allowed(n), 2, refuse(fits, 3, rest)),
+    )
+}
+
+// The dwords in use.
+fn used(n: usize, head: usize, tail: usize) -> usize
+    requires { ⌜ (head < n) × (tail < n) ⌝ }
+    ensures { λ r. ⌜ r ≡ used n head tail ⌝ }
+{
+    if head <= tail {
+        tail - head
+    } else {
+        n - (head - tail)
+    }
+}
+
+// What every look finds in the descriptor: 6, 7 or 8, or 0 for none of them. `word` is the descriptor's word that is to be the own offset.
+fn found(n: usize, own: usize, word: usize, status: usize, head: usize, tail: usize) -> u32
+    ensures { λ r. ⌜ r ≡ found n own word status head tail 0 ⌝ }
+{
+    if status != 0 {
+        return 6;
+    }
+    if n <= head {
+        return 7;
+    }
+    if n <= tail {
+        return 7;
+    }
+    if own != word {
+        return 8;
+    }
+    0
+}
+
+// What a send's look finds: these, or 10.
+pub(crate) fn send_found(
+    n: usize,
+    own: usize,
+    len: usize,
+    status: usize,
+    head: usize,
+    tail: usize,
+) -> u32
+    ensures { λ r. ⌜ r ≡ sendFound n own len status head tail ⌝ }
+{
+    let code = found(n, own, tail, status, head, tail);
+    if code != 0 {
+        return code;
+    }
+    if n - 1 - used(n, head, tail) < len {
+        return 10;
+    }
+    0
+}
+
+// What the descriptor says to a receive's look: the number but for 9, and where that is 0 the dwords in use.
+pub(crate) struct InUse {
+    pub code: u32,
+    pub used: usize,
+}
+
+// 6, 7 and 8, or 11; else what is pending.
+pub(crate) fn pending(n: usize, own: usize, status: usize, head: usize, tail: usize) -> InUse
+    ensures { λ r. ⌜ r ≡ pendingBy (pendingNumber n own status head tail) n head tail ⌝ }
+{
+    let code = found(n, own, head, status, head, tail);
+    if code != 0 {
+        return InUse { code, used: 0 };
+    }
+    let used = used(n, head, tail);
+    if used == 0 {
+        return InUse { code: 11, used: 0 };
+    }
+    InUse { code: 0, used }
+}
+
+// The offset k dwords past an own offset, around the end of a ring of n; 0 where there is no such ring.
+pub fn past(own: usize, k: usize, n: usize) -> usize
+    ensures { λ r. ⌜ (r ≡ past n own k) × (r < 16384) ⌝ }
+{
+    if 16384 < n {
+        return 0;
+    }
+    if n <= own {
+        return 0;
+    }
+    if n < k {
+        return 0;
+    }
+    let sum = own + k;
+    if sum < n { sum } else { sum - n }
+}

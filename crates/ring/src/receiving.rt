@@ -1,0 +1,122 @@
+// A receive's look and a whole receive, on plain numbers. The descriptor is read first, and the ring only where it says that a message is pending;
+// each dword of the ring is read at most once. What lays the message is lent no descriptor, what publishes neither ring nor output.
+ghost use mathlib.Core.Path.{_≡_};
+ghost use Prim.Native.Nat.{_≤_, _<_};
+ghost use lib.ListN.{length, getD};
+ghost use Rattle.ring.specs.Ring.{window};
+ghost use Rattle.ring.specs.Numbers.{foundWith, receiveLookNumber, takeNumber};
+ghost use Rattle.ring.specs.AtOnce.{seen, ended, receive};
+use crate::memory::HEAD;
+use crate::memory::STATUS;
+use crate::memory::TAIL;
+use crate::memory::mark;
+use crate::memory::publish_head;
+use crate::memory::wide;
+use crate::numbers::entry;
+use crate::numbers::past;
+use crate::numbers::pending;
+use crate::numbers::refuse;
+use crate::runs::lay_message;
+use crate::sending::Ended;
+use message::dword_at;
+
+// What a look answers: the number, and where that is 0 the header that it judged.
+pub struct Seen {
+    pub code: u32,
+    pub header: u32,
+}
+
+// What a look finds: the descriptor's words, then the header at an own head. TAIL that covers a message is published after the message, so a header
+// that is read before TAIL could be an older message's.
+fn found(own: usize, desc: &[u32], buf: &[u32]) -> Seen
+    ensures { λ r. ⌜ r ≡ seen (foundWith own (now (desc .entry)) (length (now (buf .entry))) (getD (now (buf .entry)) own 0)) own (now (buf .entry)) ⌝ }
+{
+    let status = wide(dword_at(desc, STATUS));
+    let head = wide(dword_at(desc, HEAD));
+    let tail = wide(dword_at(desc, TAIL));
+    let p = pending(buf.len(), own, status, head, tail);
+    let code = p.code;
+    if code != 0 {
+        return Seen { code, header: 0 };
+    }
+    let header = dword_at(buf, own);
+    if p.used < message::total_length(header) {
+        return Seen { code: 9, header: 0 };
+    }
+    Seen { code: 0, header }
+}
+
+// A receive's look, for a state that fits or not.
+pub fn look_header(fits: bool, own: usize, desc: &[u32], buf: &[u32]) -> Seen
+    ensures { λ r. ⌜ r ≡ seen (receiveLookNumber fits own (now (desc .entry)) (length (now (buf .entry))) (getD (now (buf .entry)) own 0)) own (now (buf .entry)) ⌝ }
+{
+    let code = entry(desc.len(), buf.len(), fits, 0);
+    if code != 0 {
+        return Seen { code, header: 0 };
+    }
+    found(own, desc, buf)
+}
+
+// The same of a whole receive, which judges its output too.
+fn take_header(fits: bool, own: usize, output: usize, desc: &[u32], buf: &[u32]) -> Seen
+    ensures { λ r. ⌜ r ≡ seen (takeNumber fits own output (now (desc .entry)) (length (now (buf .entry))) (getD (now (buf .entry)) own 0)) own (now (buf .entry)) ⌝ }
+{
+    let code = entry(desc.len(), buf.len(), fits, refuse(256 <= output, 5, 0));
+    if code != 0 {
+        return Seen { code, header: 0 };
+    }
+    found(own, desc, buf)
+}
+
+// The second dword of the message of len dwords that starts at an own head, or 0 where it has none.
+fn second_dword(buf: &[u32], own: usize, len: usize) -> u32
+    requires { ⌜ (own < length (now buf)) × (1 ≤ len) × (2 ≤ length (now buf)) × (length (now buf) ≤ 16384) ⌝ }
+    ensures { λ r. ⌜ r ≡ getD (window (now (buf .entry)) (length (now (buf .entry))) own len) 1 0 ⌝ }
+{
+    if len < 2 {
+        return 0;
+    }
+    dword_at(buf, past(own, 1, buf.len()))
+}
+
+// A whole receive: with whether the receiver's state fits as idle, and its own head. The header and the second dword are judged, and where they are
+// well formed the others go straight to their places in the output; a malformed message's others are not read.
+pub fn whole_receive(
+    fits: bool,
+    own: usize,
+    desc: &mut [u32],
+    buf: &[u32],
+    out: &mut [u32],
+) -> Ended
+    ensures { λ r. ⌜ ended r (now (desc .exit)) (now (buf .entry)) (now (out .exit)) ≡ receive fits own (now (out .entry)) (now (desc .entry)) (now (buf .entry)) ⌝ }
+{
+    let seen = take_header(fits, own, out.len(), &desc[..], buf);
+    let code = seen.code;
+    if code != 0 {
+        mark(desc, code);
+        return Ended {
+            code: code,
+            len: 0,
+            own: own,
+        };
+    }
+    let header = seen.header;
+    let len = message::total_length(header);
+    let second = second_dword(buf, own, len);
+    if message::well_formed(header, second) {
+        let head = lay_message(out, header, second, len, buf, own);
+        publish_head(desc, head as u32);
+        return Ended {
+            code: 0,
+            len: len,
+            own: head,
+        };
+    }
+    let head = past(own, len, buf.len());
+    publish_head(desc, head as u32);
+    Ended {
+        code: 13,
+        len: 0,
+        own: head,
+    }
+}

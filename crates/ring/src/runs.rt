@@ -1,0 +1,150 @@
+// Straight runs of dwords: a message goes into the ring, and out of it, in one or in two. The first two dwords of a message were judged, so they
+// are given by value and never read here; a run is lent just the places that it fills.
+ghost use mathlib.Core.Path.{_≡_};
+ghost use mathlib.Core.List.{_∷_, _++_};
+ghost use Prim.Native.Nat.{_+_, _-_, _%_, _≤_, _<_};
+ghost use lib.ListN.{length, drop};
+ghost use Rattle.ring.specs.Ring;
+ghost use Rattle.ring.specs.Ring.{window, stored, laid};
+use crate::numbers::past;
+
+// Fills dst with the dwords of src: a straight run, with no test inside.
+fn copy_run(dst: &mut [u32], src: &[u32])
+    requires { ⌜ length (now dst) ≡ length (now src) ⌝ }
+    ensures { λ _. ⌜ now (dst .exit) ≡ now (src .entry) ⌝ }
+{
+    let mut i = 0;
+    while i < src.len() {
+        dst[i] = src[i];
+        i += 1;
+    }
+}
+
+// Fills dst with a message of these two dwords and the others.
+fn fill(dst: &mut [u32], header: u32, word: u32, rest: &[u32])
+    requires { ⌜ length (now dst) ≡ 2 + length (now rest) ⌝ }
+    ensures { λ _. ⌜ now (dst .exit) ≡ header ∷ word ∷ now (rest .entry) ⌝ }
+{
+    let len = dst.len();
+    dst[0] = header;
+    dst[1] = word;
+    copy_run(&mut dst[2..len], rest);
+}
+
+// Fills dst with what follows the header of a message.
+fn fill_tail(dst: &mut [u32], word: u32, rest: &[u32])
+    requires { ⌜ length (now dst) ≡ 1 + length (now rest) ⌝ }
+    ensures { λ _. ⌜ now (dst .exit) ≡ word ∷ now (rest .entry) ⌝ }
+{
+    let len = dst.len();
+    dst[0] = word;
+    copy_run(&mut dst[1..len], rest);
+}
+
+// Lays a message of these two dwords and the others at the front of dst, or nothing where it does not fit.
+pub fn lay(dst: &mut [u32], header: u32, word: u32, rest: &[u32])
+    ensures { λ _. ⌜ now (dst .exit) ≡ laid (header ∷ word ∷ now (rest .entry)) (now (dst .entry)) ⌝ }
+{
+    if dst.len() < 2 {
+        return;
+    }
+    if dst.len() - 2 < rest.len() {
+        return;
+    }
+    let end = 2 + rest.len();
+    fill(&mut dst[0..end], header, word, rest);
+}
+
+// Lays a receiver's own copy of a message at the front of the output, and returns the head to publish. It is lent neither ring nor descriptor.
+pub fn lay_copy(
+    out: &mut [u32],
+    header: u32,
+    word: u32,
+    rest: &[u32],
+    own: usize,
+    n: usize,
+) -> usize
+    ensures { λ r. ⌜ (now (out .exit) ≡ laid (header ∷ word ∷ now (rest .entry)) (now (out .entry))) × (r ≡ Ring.past n own (2 + length (now (rest .entry)))) × (r < 16384) ⌝ }
+{
+    lay(out, header, word, rest);
+    past(own, 2 + rest.len(), n)
+}
+
+// Stores a message from place `at` on: in one run or, where it goes around the end of the buffer, in one up to the end and one from the front. Where
+// one place is left before the end, the second dword opens the second run.
+fn store_runs(buf: &mut [u32], at: usize, header: u32, word: u32, rest: &[u32])
+    requires { ⌜ (at < length (now buf)) × (2 + length (now rest) ≤ length (now buf)) ⌝ }
+    ensures { λ _. ⌜ now (buf .exit) ≡ stored (now (buf .entry)) (length (now (buf .entry))) at (header ∷ word ∷ now (rest .entry)) ⌝ }
+{
+    let len = 2 + rest.len();
+    let room = buf.len() - at;
+    if len <= room {
+        let end = at + len;
+        fill(&mut buf[at..end], header, word, rest);
+        return;
+    }
+    if room == 1 {
+        let left = len - 1;
+        buf[at] = header;
+        fill_tail(&mut buf[0..left], word, rest);
+        return;
+    }
+    let first = room - 2;
+    fill(&mut buf[at..], header, word, &rest[0..first]);
+    let left = rest.len() - first;
+    copy_run(&mut buf[0..left], &rest[first..]);
+}
+
+// Stores a message of these two dwords and the others in the ring from place `at` on, and returns the tail to publish. It is lent no descriptor, so
+// that TAIL cannot be published before the message is stored.
+pub(crate) fn store_message(
+    buf: &mut [u32],
+    at: usize,
+    header: u32,
+    word: u32,
+    rest: &[u32],
+) -> usize
+    requires { ⌜ (at < length (now buf)) × (2 + length (now rest) ≤ length (now buf)) × (length (now buf) ≤ 16384) ⌝ }
+    ensures { λ r. ⌜ (now (buf .exit) ≡ stored (now (buf .entry)) (length (now (buf .entry))) at (header ∷ word ∷ now (rest .entry))) × (r ≡ (at + (2 + length (now (rest .entry)))) % length (now (buf .entry))) × (r < 16384) ⌝ }
+{
+    store_runs(buf, at, header, word, rest);
+    past(at, 2 + rest.len(), buf.len())
+}
+
+// Fills dst with the dwords of the ring from place `at` on: one run, or two where they go around the end.
+fn load_run(dst: &mut [u32], buf: &[u32], at: usize)
+    requires { ⌜ (at < length (now buf)) × (length (now dst) ≤ length (now buf)) ⌝ }
+    ensures { λ _. ⌜ now (dst .exit) ≡ window (now (buf .entry)) (length (now (buf .entry))) at (length (now (dst .entry))) ⌝ }
+{
+    let room = buf.len() - at;
+    let count = dst.len();
+    if count <= room {
+        let end = at + count;
+        copy_run(dst, &buf[at..end]);
+    } else {
+        let rest = count - room;
+        copy_run(&mut dst[0..room], &buf[at..]);
+        copy_run(&mut dst[room..], &buf[0..rest]);
+    }
+}
+
+// Lays a message of which the first two dwords were read, and the others are read now, at the front of the output, and returns the head to publish.
+// It is lent no descriptor, so that HEAD cannot be published before the message is laid.
+pub(crate) fn lay_message(
+    out: &mut [u32],
+    header: u32,
+    second: u32,
+    len: usize,
+    buf: &[u32],
+    own: usize,
+) -> usize
+    requires { ⌜ (2 ≤ len) × (len ≤ length (now out)) × (len ≤ length (now buf)) × (own < length (now buf)) × (length (now buf) ≤ 16384) ⌝ }
+    ensures { λ r. ⌜ (now (out .exit) ≡ header ∷ second ∷ window (now (buf .entry)) (length (now (buf .entry))) (own + 2) (len - 2) ++ drop len (now (out .entry))) × (r ≡ (own + len) % length (now (buf .entry))) × (r < 16384) ⌝ }
+{
+    out[0] = header;
+    out[1] = second;
+    let n = buf.len();
+    let at = past(own, 2, n);
+    load_run(&mut out[2..len], buf, at);
+    past(own, len, n)
+}
