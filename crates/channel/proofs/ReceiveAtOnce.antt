@@ -11,7 +11,7 @@ use lib.Dec.{eqb, leb, ltb}
 use borrow.Author.Tests.{eqb-true, le-leb, lt-ltb}
 use Rattle.message.specs.Header.{totalLength, wellFormed}
 use Rattle.ring.specs.AtOnce.{AtOnce, ended, receive, receiveBy, receiveNumber}
-use Rattle.ring.specs.Numbers.{entry, foundWith, marked, need, receiveLookNumber, takeNumber}
+use Rattle.ring.specs.Numbers.{entry, foundWith, marked, need, receiveDecision, takeNumber}
 use Rattle.channel.specs.Outcome.{Outcome}
 use Rattle.ring.specs.Ring.{allowed, head, status, tail, window}
 use Rattle.channel.specs.State.{State, activeReceive, header, idle, idleAt, second}
@@ -186,7 +186,7 @@ module _ (s : State) (o d b : List ℕ) where
 
 -- 'A whole .. receive that 1 to 5 don't refuse equals its steps run one after another'
 pub receive-at-once : (s : State) (o d b : List ℕ) → Receive.whole s o d b ≡ receiveOutcome s (receive (idle (length b) s) (s .own) o d b)
-unfolding Same taken f Receive.wholeNumber receiveLookNumber takeNumber entry need marked
+unfolding Same taken f Receive.wholeNumber receiveDecision takeNumber entry need marked
 receive-at-once s o d b =
     cases (eqb (length d) 16)
     (λ t₁. cases (allowed (length b))

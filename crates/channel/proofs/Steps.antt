@@ -7,13 +7,14 @@ use native.Mathlib.Omega.{arith}
 use lib.ListN.{length, getD, take, drop}
 use lib.Seq.{length-take-le}
 use lib.Dec.{eqb, leb}
-use borrow.Author.Tests.{leb-true, eqb-true, ne-eqb, le-leb}
+use borrow.Author.Tests.{leb-true, eqb-true, ne-eqb}
 use Rattle.message.specs.Header.{wellFormed}
 use Rattle.message.proofs.Formed.{well-formed}
 use Rattle.channel.specs.State.{State, activeReceive, header, second}
 use Rattle.channel.specs.Receive.{publishNumberOf}
 use Rattle.ring.proofs.Chains.{passed, passed-rest, entered-fits, entered-rest}
 use Rattle.ring.specs.Ring.{laid}
+use Rattle.ring.proofs.Straight.{laid-there}
 use Rattle.channel.proofs.Going.{Going, going-receive, receive-active}
 
 -- whether a receive's publish moves HEAD: its number is 0 or 13
@@ -65,11 +66,6 @@ two-of (suc zero) m a b = absurd (omega arith)
 two-of (suc (suc l)) [] a b = absurd (omega arith)
 two-of (suc (suc l)) (x ∷ []) a b = absurd (omega arith)
 two-of (suc (suc l)) (x ∷ y ∷ m) a b = let e : suc (suc l) - 2 ≡ l = omega arith in rw e
-
--- dwords for which there is room
-laid-there : (xs o : List ℕ) → length xs ≤ length o → laid xs o ≡ xs ++ drop (length xs) o
-unfolding laid
-laid-there xs o h = rw (le-leb (length xs) (length o) h)
 
 -- laid at the front of an output
 pub laid-copy :

@@ -7,12 +7,12 @@ use lib.Dec.{eqb, leb, ltb}
 use Rattle.message.specs.Header.{totalLength, wellFormed}
 use Rattle.ring.specs.Ring.{HEAD}
 use Rattle.channel.specs.State.{State, idleAt, idle, activeReceive, header, second}
-use Rattle.ring.specs.Numbers.{need, entry, receiveLookNumber, marked}
+use Rattle.ring.specs.Numbers.{need, entry, receiveDecision, marked}
 use Rattle.channel.specs.Outcome.{Outcome, refused}
 
 -- 'look (read STATUS, HEAD, TAIL and, if not empty, the header, ..)': 1, 2 and 3, then what the descriptor and the header at the own head say
 abbrev pub lookNumber : State → List ℕ → List ℕ → ℕ
-lookNumber s d b = receiveLookNumber (idle (length b) s) (s .own) d (length b) (getD b (s .own) 0)
+lookNumber s d b = receiveDecision (idle (length b) s) (s .own) d (length b) (getD b (s .own) 0)
 
 -- 'the header, which counts as the first dword copied'
 abbrev pub loaded : State → ℕ → State

@@ -6,17 +6,17 @@ use mathlib.Core.Bool.{Bool, true, false}
 use lib.ListN.{length}
 use lib.Dec.{eqb}
 use borrow.Author.Tests.{eqb-true}
-use Rattle.channel.specs.Ring.{allowed}
+use Rattle.ring.specs.Ring.{allowed}
 use Rattle.channel.specs.State.{ofSender, ofReceiver}
-use Rattle.channel.specs.Numbers.{need}
+use Rattle.ring.specs.Numbers.{need}
 use Rattle.channel.specs.Outcome.{Outcome, sent, received}
 use Rattle.channel.specs.Opening.{Opening, openNumber, openBy, opened, opening}
 use Rattle.channel.specs.Send
 use Rattle.channel.specs.Receive
-use Rattle.channel.specs.declared.state.Opened.{Opened}
-use Rattle.channel.specs.declared.state.Sent.{Sent}
-use Rattle.channel.specs.declared.state.Received.{Received}
-use Rattle.channel.proofs.Chains.{passed, passed-rest}
+use Rattle.channel.specs.declared.opening.Opened.{Opened}
+use Rattle.channel.specs.declared.sending.Sent.{Sent}
+use Rattle.channel.specs.declared.receiving.Received.{Received}
+use Rattle.ring.proofs.Chains.{passed, passed-rest}
 use Rattle.delivery.specs.Operations.{begun}
 use Rattle.delivery.specs.Loopback.{firstSend, firstReceive, loop, looped}
 

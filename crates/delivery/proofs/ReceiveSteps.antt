@@ -13,14 +13,14 @@ use lib.Seq.{take-suc, take-all, getD-take, length-take-le, set-at, append-snoc,
 use lib.Dec.{leb, eqb}
 use Rattle.message.specs.Header.{isMessage, totalLength, wellFormed}
 use Rattle.message.proofs.Formed.{message-formed, message-length, message-long, message-short}
-use Rattle.channel.specs.Numbers.{marked, need, receiveFound}
+use Rattle.ring.specs.Numbers.{marked, need, receiveDecision, receiveFound}
 use Rattle.channel.specs.Outcome.{Outcome}
-use Rattle.channel.specs.Ring.{window}
+use Rattle.ring.specs.Ring.{window}
 use Rattle.channel.specs.State.{activeReceive, idle}
 use Rattle.channel.specs.Receive
-use Rattle.channel.proofs.Chains.{cases, ok}
+use Rattle.ring.proofs.Chains.{cases, ok}
 use Rattle.channel.proofs.Fits.{busy-active-receive, busy-idle, idle-active-receive, idle-idle}
-use Rattle.channel.proofs.Ring.{window-append, window-at, window-length}
+use Rattle.ring.proofs.Ring.{window-append, window-at, window-length}
 use Rattle.delivery.specs.Plain.{Answer, Plain, Receiving, Sending, descriptor, first, notReceiving, notSending, receiving, sending}
 use Rattle.delivery.specs.Plain
 use Rattle.delivery.proofs.Invariant.{Inv, InvSend, bad, below-is, empty-receiving, entry-ok, found-receive, own-receive, plain, receiveState, receiverOf, senderOf, used-eq}
@@ -71,7 +71,7 @@ module _ (n : ℕ) (b : List ℕ) (P R : ℕ) (s : Sending) where
   look-code :
       (q : List (List ℕ)) (r : Receiving) → Inv (plain n b q P R s r)
       → Receive.lookNumber (receiveState n R (first q) r) (descriptor (plain n b q P R s r)) b ≡ Plain.receiveLookNumber (plain n b q P R s r)
-  unfolding Receive.lookNumber receiveFound Plain.receiveLookNumber
+  unfolding receiveDecision receiveFound Plain.receiveLookNumber
   look-code [] notReceiving g =
       entry-ok _ g _ _ ∙ ok 3 (fits-idle [] g) ∙ found-receive _ g _ ∙ rw (used-eq _ g) (unfold flat need in refl)
   look-code (m ∷ q) notReceiving g =

@@ -9,9 +9,9 @@ use lib.Dec.{leb}
 use borrow.Author.Tests.{le-leb}
 use Rattle.message.specs.Header.{isMessage}
 use Rattle.message.proofs.Formed.{message-long, message-short}
-use Rattle.channel.specs.Numbers.{need}
-use Rattle.channel.specs.Ring.{allowed, stored}
-use Rattle.channel.proofs.Chains.{allowed-low, cases, ok}
+use Rattle.ring.specs.Numbers.{need}
+use Rattle.ring.specs.Ring.{allowed, stored}
+use Rattle.ring.proofs.Chains.{allowed-low, cases, ok}
 use Rattle.delivery.specs.Loopback.{ComesBack, Loopback, comesBack, firstReceive, firstSend, loop}
 use Rattle.delivery.specs.Operations.{Seen, plainRun, plainSeen, receiveWhole, run, seen, sendWhole}
 use Rattle.delivery.specs.Plain.{Answer, Plain, notReceiving, notSending}

@@ -13,14 +13,14 @@ use lib.Seq.{getD-set-same, take-suc, take-all}
 use lib.Dec.{leb, eqb}
 use Rattle.message.specs.Header.{isMessage, totalLength}
 use Rattle.message.proofs.Formed.{message-formed, message-length, message-long, message-short}
-use Rattle.channel.specs.Numbers.{marked, need, sendFound}
+use Rattle.ring.specs.Numbers.{marked, need, sendDecision, sendFound}
 use Rattle.channel.specs.Outcome.{Outcome}
-use Rattle.channel.specs.Ring.{free, head, tail, window}
+use Rattle.ring.specs.Ring.{free, head, tail, window}
 use Rattle.channel.specs.State.{activeSend, idle}
 use Rattle.channel.specs.Send
-use Rattle.channel.proofs.Chains.{cases, ok}
+use Rattle.ring.proofs.Chains.{cases, ok}
 use Rattle.channel.proofs.Fits.{busy-active-send, busy-idle, idle-active-send, idle-idle}
-use Rattle.channel.proofs.Ring.{apart, window-append, window-set}
+use Rattle.ring.proofs.Ring.{apart, window-append, window-set}
 use Rattle.delivery.specs.Plain.{Answer, Plain, Receiving, Sending, descriptor, first, notReceiving, notSending, receiving, sending}
 use Rattle.delivery.specs.Plain
 use Rattle.delivery.proofs.Invariant.{AllMessages, Inv, InvReceive, bad, below-is, empty-receiving, entry-ok, found-send, n-low, own-send, plain, receiveState, receiverOf, sendState, senderOf, used-eq}
@@ -51,7 +51,7 @@ module _ (n : ℕ) (b : List ℕ) (q : List (List ℕ)) (P R : ℕ) (r : Receivi
   look-code :
       (s : Sending) (m : List ℕ) → Inv (plain n b q P R s r)
       → Send.lookNumber (sendState n P s) m (descriptor (plain n b q P R s r)) b ≡ Plain.sendLookNumber (plain n b q P R s r) m
-  unfolding Send.numberAt sendFound Plain.sendLookNumber
+  unfolding sendDecision sendFound isMessage Plain.sendLookNumber
   look-code notSending m g =
       entry-ok _ g _ _ ∙ ok 3 (fits-idle g) ∙ ap (need (isMessage m) 4) (found-send _ g _ ∙ ap (λ (x : ℕ). need (leb (length m) x) 10 0) (free-eq notSending g))
   look-code (sending k m₀) m g = entry-ok _ g _ _ ∙ bad _ (fits-not k m₀ g)

@@ -7,11 +7,11 @@ use native.Mathlib.Nat.{zero-mod}
 use native.Mathlib.Omega.{arith}
 use borrow.Author.Tests.{eq-eqb}
 use lib.ListN.{length}
-use Rattle.channel.specs.Numbers.{need}
+use Rattle.ring.specs.Numbers.{need}
 use Rattle.channel.specs.Opening.{openBy, openNumber, opening}
 use Rattle.channel.specs.Outcome.{Outcome}
-use Rattle.channel.specs.Ring.{allowed, window}
-use Rattle.channel.proofs.Chains.{allowed-low}
+use Rattle.ring.specs.Ring.{allowed, window}
+use Rattle.ring.proofs.Chains.{allowed-low}
 use Rattle.delivery.specs.Operations.{Channel, Op, after, begun, end, next, outcome, plainAnswer, plainEnd, plainRun, plainSeen, receiveLook, receiveMove, receivePublish, receiveWhole, run, seen, sendLook, sendMove, sendPublish, sendWhole}
 use Rattle.delivery.specs.Plain.{Answer, Plain, descriptor, fresh}
 use Rattle.delivery.proofs.Invariant.{Inv, channelOf}

@@ -12,13 +12,13 @@ use lib.Seq.{take-at, drop-at}
 use lib.Dec.{leb, eqb}
 use Rattle.message.specs.Header.{isMessage, totalLength}
 use Rattle.message.proofs.Formed.{message-length, message-long}
-use Rattle.channel.specs.Numbers.{need}
+use Rattle.ring.specs.Numbers.{need}
 use Rattle.channel.specs.Outcome.{Outcome}
-use Rattle.channel.specs.Ring.{allowed, stored, window}
+use Rattle.ring.specs.Ring.{allowed, stored, window}
 use Rattle.channel.specs.Send
-use Rattle.channel.proofs.Chains.{cases}
-use Rattle.channel.proofs.Ring.{apart, window-mod}
-use Rattle.delivery.specs.Demand.{Call, Demand3, Serial, StoresAt, Unreleased, answers, cut, ended, endedBy, held, midway, published, publishedBy, received, receivedBy, result, unread, wholes}
+use Rattle.ring.proofs.Chains.{cases}
+use Rattle.ring.proofs.Ring.{apart, window-mod}
+use Rattle.delivery.specs.Demand.{Call, Demand3, Serial, StoresAt, Unreleased, answers, cut, ended, endedBy, held, midway, movedOf, PlainStoresAt, published, publishedBy, received, receivedBy, result, unread, wholes}
 use Rattle.delivery.specs.Operations.{Channel, Op, Seen, after, end, plainAnswer, plainEnd, plainRun, plainSeen, receiveLook, receiveMove, receivePublish, receiveWhole, run, sendLook, sendMove, sendPublish, sendWhole}
 use Rattle.delivery.specs.Plain.{Answer, Plain, Receiving, Sending, descriptor, fresh, notSending, sending}
 use Rattle.delivery.specs.Plain
@@ -144,6 +144,36 @@ module _ (n : ℕ) (b : List ℕ) (q : List (List ℕ)) (P R : ℕ) (r : Receivi
       (λ t. let z : _≡_ {A = ℕ} 4 0 = rw t at e in omega arith)
   whole-safe (sending k₀ m₀) m g e w k h f = let z : _≡_ {A = ℕ} 3 0 = e in omega arith
 
+  -- the place of a store in the plain channel's words
+  move-place : (s : Sending) → Inv (plain n b q P R s r) → j ≡ Send.place (sendState n P s) b → j ≡ (P + movedOf s) % n
+  move-place notSending g f = rw (g .size) at f ∙ mod-add-mod P n 0
+  move-place (sending k m) g f = rw (g .size) at f ∙ mod-add-mod P n k
+
+  whole-place :
+      (s : Sending) (m : List ℕ) → Inv (plain n b q P R s r) → Plain.sendLook (plain n b q P R s r) m .code ≡ 0 → (k : ℕ) → k < length m
+      → j ≡ Send.place (midway (channelOf (plain n b q P R s r)) m k .next) (midway (channelOf (plain n b q P R s r)) m k .buf)
+      → j ≡ (P + k) % n
+  unfolding Plain.sendLookBy Plain.sendLookNumber need
+  whole-place notSending m g e k h f =
+      cases (isMessage m)
+      (λ t. cases (leb (length m) (n - 1 - (P - R)))
+      (λ u. f ∙ midway-place m g t u k h ∙ mod-add-mod P n k)
+      (λ u. let z : _≡_ {A = ℕ} 10 0 = rw (t, u) at e in absurd (omega arith)))
+      (λ t. let z : _≡_ {A = ℕ} 4 0 = rw t at e in absurd (omega arith))
+  whole-place (sending k₀ m₀) m g e k h f = let z : _≡_ {A = ℕ} 3 0 = e in absurd (omega arith)
+
+store-place : (p : Plain) → Inv p → (o : Op) (j : ℕ) → StoresAt (channelOf p) o j → PlainStoresAt p o j
+store-place p g (sendLook m) j s = s
+store-place p g sendMove j s = move-place (p .n) (p .buf) (p .queue) (p .P) (p .R) (p .receive) j (p .send) g (s .1)
+store-place p g sendPublish j s = s
+store-place p g (sendWhole m) j s =
+    let c = sym (ap (λ (x : Seen). x .code) (step-sim p g (sendLook m) .same)) ∙ s .0 in
+    (s .1, s .2, whole-place (p .n) (p .buf) (p .queue) (p .P) (p .R) (p .receive) j (p .send) m g c (s .1) (s .2) (s .3))
+store-place p g receiveLook j s = s
+store-place p g receiveMove j s = s
+store-place p g (receivePublish o) j s = s
+store-place p g (receiveWhole o) j s = s
+
 no-store : (p : Plain) → Inv p → (o : Op) (j : ℕ) → Unreleased p j → StoresAt (channelOf p) o j → ⊥
 unfolding Plain.sendMoveBy
 no-store p g (sendLook m) j w s = s
@@ -184,6 +214,11 @@ module _ (b : List ℕ) (a : allowed (length b) ≡ true) (list : List Op) where
       let g : Inv p = end-good (fresh (length b) b) g₀ pre in
       rw (end-sim (fresh (length b) b) g₀ pre) (no-store p g o j w, kept-dword p g o j w)
 
+  places₀ :
+      (pre : List Op) (o : Op) (j : ℕ) → StoresAt (end (channelOf (fresh (length b) b)) pre) o j → PlainStoresAt (plainEnd (fresh (length b) b) pre) o j
+  places₀ pre o j =
+      rw (end-sim (fresh (length b) b) g₀ pre) (store-place (plainEnd (fresh (length b) b) pre) (end-good (fresh (length b) b) g₀ pre) o j)
+
   serial₀ :
       plainEnd (fresh (length b) b) list .send ≡ notSending → (any : ℕ → List ℕ) → ((i : ℕ) → length (any i) ≡ 256)
       → Serial (channelOf (fresh (length b) b)) (ended any [] list (run (channelOf (fresh (length b) b)) list)) (end (channelOf (fresh (length b) b)) list)
@@ -208,6 +243,7 @@ demand3 d b e a list =
       opens = open-code d b e a;
       messages = rw o (messages₀ b a list);
       stores = λ before later op _. rw o (stores₀ b a list before op);
+      places = λ before later op _. rw o (places₀ b a list before op);
       as-plain = rw o (run-sim p g list);
       plain-desc = rw o (ap (λ (y : Channel). y .desc) (end-sim p g list));
       plain-buf = rw o (ap (λ (y : Channel). y .buf) (end-sim p g list));

@@ -6,9 +6,9 @@ use Prim.Native.Nat.{ℕ, zero, suc, _-_}
 use lib.ListN.{length}
 use lib.Dec.{eqb}
 use Rattle.channel.specs.Outcome.{Outcome}
-use Rattle.channel.specs.Ring.{good}
+use Rattle.ring.specs.Ring.{good}
 use Rattle.channel.specs.Receive
-use Rattle.channel.proofs.Chains.{cases, ok}
+use Rattle.ring.proofs.Chains.{cases, ok}
 use Rattle.delivery.specs.Plain.{Answer, Plain, Receiving, descriptor, first, notReceiving, receiving}
 use Rattle.delivery.specs.Plain
 use Rattle.delivery.proofs.Invariant.{Inv, bad, entry-ok, plain, receiveState, receiverOf}

@@ -7,11 +7,11 @@ use mathlib.Core.List.{List, [], _∷_, _++_, map}
 use lib.ListN.{length, getD, take, drop}
 use lib.Dec.{eqb}
 use Rattle.message.specs.Header.{totalLength}
-use Rattle.channel.specs.Ring.{allowed, head, tail, used, window}
+use Rattle.ring.specs.Ring.{allowed, head, tail, used, window}
 use Rattle.channel.specs.Outcome.{Outcome}
 use Rattle.channel.specs.Opening.{opening}
 use Rattle.channel.specs.Send
-use Rattle.delivery.specs.Plain.{Plain, notSending, notReceiving, fresh, descriptor}
+use Rattle.delivery.specs.Plain.{Plain, Sending, notSending, sending, notReceiving, fresh, descriptor}
 use Rattle.delivery.specs.Operations.{Op, sendLook, sendMove, sendPublish, sendWhole, receiveLook, receiveMove, receivePublish, receiveWhole, Seen, Channel, begun, outcome, after, run, end, plainRun, plainEnd}
 
 -- ---- messages published, received and unread
@@ -95,6 +95,21 @@ StoresAt x receiveMove j = ⊥
 StoresAt x (receivePublish o) j = ⊥
 StoresAt x (receiveWhole o) j = ⊥
 
+-- and this is that place in the plain channel's words: '(P + k) mod N', k the dwords that its send has moved
+abbrev pub movedOf : Sending → ℕ
+movedOf notSending = 0
+movedOf (sending k m) = k
+
+abbrev pub PlainStoresAt : Plain → Op → ℕ → Type 0
+PlainStoresAt p (sendLook m) j = ⊥
+PlainStoresAt p sendMove j = j ≡ (p .P + movedOf (p .send)) % p .n
+PlainStoresAt p sendPublish j = ⊥
+PlainStoresAt p (sendWhole m) j = (k : ℕ) × (k < length m) × (j ≡ (p .P + k) % p .n)
+PlainStoresAt p receiveLook j = ⊥
+PlainStoresAt p receiveMove j = ⊥
+PlainStoresAt p (receivePublish o) j = ⊥
+PlainStoresAt p (receiveWhole o) j = ⊥
+
 -- ---- calls that ended
 
 -- a call's answer: the number, L and the output
@@ -162,6 +177,10 @@ pub record Demand (d b : List ℕ) (list : List Op) : Type 0 where
       (before later : List Op) (o : Op) → list ≡ before ++ o ∷ later → (j : ℕ) → Unreleased (plainEnd (fresh (length b) b) before) j
       → (StoresAt (end (begun d b) before) o j → ⊥)
       × (getD (after (end (begun d b) before) o .buf) j 0 ≡ getD (end (begun d b) before .buf) j 0)
+  -- the place of each store is '(P + k) mod N'
+  pub places :
+      (before later : List Op) (o : Op) → list ≡ before ++ o ∷ later → (j : ℕ)
+      → StoresAt (end (begun d b) before) o j → PlainStoresAt (plainEnd (fresh (length b) b) before) o j
   -- every answer, output, descriptor and buffer is the plain channel's, after each operation and at the end
   pub as-plain : run (begun d b) list ≡ plainRun (fresh (length b) b) list
   pub plain-desc : end (begun d b) list .desc ≡ descriptor (plainEnd (fresh (length b) b) list)

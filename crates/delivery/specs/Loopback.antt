@@ -6,8 +6,8 @@ use mathlib.Core.List.{List, _++_}
 use lib.ListN.{length, drop}
 use lib.Dec.{leb}
 use Rattle.message.specs.Header.{isMessage}
-use Rattle.channel.specs.Ring.{allowed}
-use Rattle.channel.specs.Numbers.{need}
+use Rattle.ring.specs.Ring.{allowed}
+use Rattle.ring.specs.Numbers.{need}
 use Rattle.channel.specs.Outcome.{Outcome}
 use Rattle.channel.specs.Opening.{opening}
 use Rattle.delivery.specs.Operations.{sendWhole, receiveWhole, begun, outcome, after}

@@ -5,7 +5,7 @@ use mathlib.Core.List.{List, [], _∷_, _++_}
 use lib.ListN.{length, getD, drop, set, replicate}
 use lib.Dec.{leb, eqb}
 use Rattle.message.specs.Header.{isMessage}
-use Rattle.channel.specs.Numbers.{need}
+use Rattle.ring.specs.Numbers.{need}
 
 -- 'for each side whether it is mid-call (not at first), with k dwords moved and a send's message'
 pub data Sending : Type 0 where

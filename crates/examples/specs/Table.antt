@@ -9,7 +9,7 @@ use Rattle.message.specs.Words.{Answer, packAnswer, unpackAnswer}
 use Rattle.message.specs.declared.Message.{Message}
 use Rattle.message.specs.declared.Origin.the-variants.{Host, Guc}
 use Rattle.message.specs.declared.Body.the-variants.{Request, Failure, Success}
-use Rattle.channel.specs.Ring.{head, tail, free}
+use Rattle.ring.specs.Ring.{head, tail, free}
 use Rattle.channel.specs.State.{State, state, idleAt}
 use Rattle.channel.specs.Outcome.{Outcome, refused}
 use Rattle.channel.specs.Opening.{Opening, opening}

@@ -8,9 +8,9 @@ use lib.ListN.{length, getD, set}
 use lib.Seq.{drop-set-lt, getD-take, take-set-lt}
 use lib.Dec.{eqb}
 use borrow.Author.Tests.{eqb-true}
-use Rattle.channel.specs.Ring.{HEAD, STATUS, head, tail, status}
-use Rattle.channel.specs.Numbers.{need}
-use Rattle.channel.proofs.Chains.{cases, true-false}
+use Rattle.ring.specs.Ring.{HEAD, STATUS, head, tail, status}
+use Rattle.ring.specs.Numbers.{need}
+use Rattle.ring.proofs.Chains.{cases, true-false}
 use Rattle.refusals.specs.Refusals.{leaves, oneOf, reserved, unreserved}
 
 -- a chain answers one of the list where its first test's number and the rest of it do

@@ -7,13 +7,13 @@ use native.Mathlib.Omega.{arith}
 use lib.ListN.{length, getD, take, drop, set}
 use lib.Dec.{eqb}
 use borrow.Author.Tests.{eqb-true, ne-eqb}
-use Rattle.channel.specs.AtOnce.{lengthAt, messageAt, receiveBy, receiveNumber, takeNumber}
-use Rattle.channel.specs.Numbers.{entry, found, marked, receiveFound}
+use Rattle.ring.specs.AtOnce.{lengthAt, messageAt, receiveBy, receiveNumber}
+use Rattle.ring.specs.Numbers.{entry, found, marked, receiveDecision, receiveFound, takeNumber}
 use Rattle.channel.specs.Opening.{openBy, openNumber, opening}
-use Rattle.channel.specs.Ring.{HEAD}
+use Rattle.ring.specs.Ring.{HEAD}
 use Rattle.channel.specs.State.{State, idle, idleAt}
 use Rattle.channel.specs.Receive
-use Rattle.channel.proofs.Chains.{cases}
+use Rattle.ring.proofs.Chains.{cases}
 use Rattle.channel.proofs.ReceiveAtOnce.{receive-at-once, receiveOutcome}
 use Rattle.refusals.specs.Refusals.{OpeningSays, Says, comesBack, goesOn, leaves, none, noOutput, oneOf, openings, receiveLooks, receivePublishes, wholeReceives}
 use Rattle.refusals.proofs.Laws.{Alike, mild-none, mild-set, not-one, one-need}
@@ -24,13 +24,13 @@ use Rattle.refusals.proofs.Sends.{one-on}
 
 module _ (s : State) (b : List ℕ) where
   look-one : (d : List ℕ) → oneOf receiveLooks (Receive.lookNumber s d b) ≡ true
-  unfolding oneOf Receive.lookNumber entry receiveFound found
+  unfolding oneOf receiveDecision entry receiveFound found
   look-one d =
       let next = one-need receiveLooks in
       next _ 1 _ refl (next _ 2 _ refl (next _ 3 _ refl (next _ 6 _ refl (next _ 7 _ refl (next _ 8 _ refl (next _ 9 _ refl (next _ 11 _ refl refl)))))))
 
   look-alike : (d e : List ℕ) → Alike d e → Receive.lookNumber s d b ≡ Receive.lookNumber s e b
-  unfolding Receive.lookNumber
+  unfolding receiveDecision
   look-alike d e a = rw (a .size, a .heads, a .tails, a .statuses)
 
   look-refuses : (c : ℕ) (d : List ℕ) → eqb c 0 ≡ false → oneOf receiveLooks c ≡ true → Receive.lookBy c s d b ≡ refusal c none s noOutput b d

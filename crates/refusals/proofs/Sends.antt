@@ -6,9 +6,9 @@ use mathlib.Core.List.{List, []}
 use native.Mathlib.Omega.{arith}
 use lib.ListN.{length, getD, set}
 use lib.Dec.{eqb}
-use Rattle.channel.specs.AtOnce.{sendBy}
-use Rattle.channel.specs.Numbers.{entry, found, marked, need, sendFound}
-use Rattle.channel.specs.Ring.{TAIL, stored}
+use Rattle.ring.specs.AtOnce.{numberAt, sendBy}
+use Rattle.ring.specs.Numbers.{entry, found, marked, need, sendDecision, sendFound}
+use Rattle.ring.specs.Ring.{TAIL, stored}
 use Rattle.channel.specs.State.{State, idleAt}
 use Rattle.channel.specs.Send
 use Rattle.channel.proofs.SendAtOnce.{send-at-once, sendOutcome}
@@ -18,8 +18,8 @@ use Rattle.refusals.proofs.Says.{Accepts, refusal, says}
 
 -- ---- which numbers
 
-one-look : (fits : Bool) (own : ℕ) (m d : List ℕ) (n : ℕ) → oneOf sendLooks (Send.numberAt fits own m d n) ≡ true
-unfolding oneOf Send.numberAt entry sendFound found
+one-look : (fits : Bool) (own : ℕ) (m d : List ℕ) (n : ℕ) → oneOf sendLooks (numberAt fits own m d n) ≡ true
+unfolding oneOf sendDecision entry sendFound found
 one-look fits own m d n =
     let next = one-need sendLooks in
     next _ 1 _ refl (next _ 2 _ refl (next _ 3 _ refl (next _ 4 _ refl (next _ 6 _ refl (next _ 7 _ refl (next _ 8 _ refl (next _ 10 _ refl refl)))))))
@@ -33,8 +33,8 @@ one-on d n fits test =
 
 -- ---- the steps
 
-look-alike : (fits : Bool) (own : ℕ) (m : List ℕ) (n : ℕ) (d e : List ℕ) → Alike d e → Send.numberAt fits own m d n ≡ Send.numberAt fits own m e n
-unfolding Send.numberAt
+look-alike : (fits : Bool) (own : ℕ) (m : List ℕ) (n : ℕ) (d e : List ℕ) → Alike d e → numberAt fits own m d n ≡ numberAt fits own m e n
+unfolding sendDecision
 look-alike fits own m n d e a = rw (a .size, a .heads, a .tails, a .statuses)
 
 module _ (s : State) (m b : List ℕ) where

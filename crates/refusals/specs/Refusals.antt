@@ -7,7 +7,7 @@ use mathlib.Core.List.{List, [], _∷_}
 use lib.ListN.{length, getD, take, drop, set}
 use lib.Dec.{eqb}
 use Rattle.message.specs.Header.{totalLength}
-use Rattle.channel.specs.Ring.{HEAD, STATUS}
+use Rattle.ring.specs.Ring.{HEAD, STATUS}
 use Rattle.channel.specs.State.{State, idleAt}
 use Rattle.channel.specs.Outcome.{Outcome}
 use Rattle.channel.specs.Opening.{Opening, opening}

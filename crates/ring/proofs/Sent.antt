@@ -9,7 +9,7 @@ use lib.Dec.{leb}
 use borrow.Author.Tests.{leb-true}
 use Rattle.message.specs.Header.{startsMessage, isMessage}
 use Rattle.ring.specs.AtOnce.{numberAt}
-use Rattle.ring.specs.Numbers.{found, need, sendFound, sendLookNumber}
+use Rattle.ring.specs.Numbers.{found, need, sendFound, sendDecision}
 use Rattle.ring.specs.Ring.{free, head, status, tail, used}
 use Rattle.ring.proofs.Chains.{Entered, entered, entered-fits, entered-rest, passed, passed-rest}
 use Rattle.ring.proofs.Found.{found-rest, none-found}
@@ -28,7 +28,7 @@ module _ (fits : Bool) (own : ℕ) (m d : List ℕ) (n : ℕ) (e : numberAt fits
   rest = need (startsMessage (length m) (getD m 0 0) (getD m 1 0)) 4 (sendFound n own (length m) (status d) (head d) (tail d))
 
   e₁ : rest ≡ 0
-  unfolding sendLookNumber rest
+  unfolding sendDecision rest
   e₁ = entered-rest (length d) n fits rest 0 refl refl refl e
 
   e₂ : sendFound n own (length m) (status d) (head d) (tail d) ≡ 0
@@ -43,7 +43,7 @@ module _ (fits : Bool) (own : ℕ) (m d : List ℕ) (n : ℕ) (e : numberAt fits
   e₃ = e₂
 
   pub accepted : Accepted fits own m d n
-  unfolding sendLookNumber rest free fits-free isMessage
+  unfolding sendDecision rest free fits-free isMessage
   accepted =
       let f = none-found n own (tail d) (status d) (head d) (tail d) fits-free e₃ in
       let z : fits-free ≡ 0 = found-rest n own (tail d) (status d) (head d) (tail d) fits-free e₃ in

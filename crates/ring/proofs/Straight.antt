@@ -173,6 +173,11 @@ pub laid-run : (dst : List ℕ) (k : ℕ) (xs : List ℕ) → length xs ≡ k �
 unfolding laid
 laid-run dst k xs l h = let e : length xs ≤ length dst = omega arith in rw (le-leb _ _ e, l)
 
+-- dwords for which there is room are laid
+pub laid-there : (xs o : List ℕ) → length xs ≤ length o → laid xs o ≡ xs ++ drop (length xs) o
+unfolding laid
+laid-there xs o h = rw (le-leb (length xs) (length o) h)
+
 -- and those for which there is no room are not
 pub laid-none : (dst xs : List ℕ) → length dst < length xs → dst ≡ laid xs dst
 unfolding laid

@@ -7,7 +7,7 @@ use lib.ListN.{length, getD, drop, set}
 use lib.Dec.{eqb}
 use Rattle.message.specs.Header.{totalLength, wellFormed}
 use Rattle.ring.specs.Ring.{HEAD, TAIL, window, stored}
-use Rattle.ring.specs.Numbers.{need, marked, sendLookNumber, takeNumber}
+use Rattle.ring.specs.Numbers.{need, marked, sendDecision, takeNumber}
 use Rattle.ring.specs.declared.receiving.Seen.{Seen}
 use Rattle.ring.specs.declared.sending.Ended.{Ended}
 
@@ -26,7 +26,7 @@ ended r d b o = record { code = r .code; len = r .len; own = r .own; desc = d; b
 
 -- the number of a send's look at a message
 abbrev pub numberAt : Bool → ℕ → List ℕ → List ℕ → ℕ → ℕ
-numberAt fits own m d n = sendLookNumber fits own (length m) (getD m 0 0) (getD m 1 0) d n
+numberAt fits own m d n = sendDecision fits own (length m) (getD m 0 0) (getD m 1 0) d n
 
 -- a whole send: where the look accepts, the message lies from the own tail on, and TAIL past it
 unfoldable pub sendBy : ℕ → ℕ → List ℕ → List ℕ → List ℕ → AtOnce

@@ -44,8 +44,8 @@ pendingBy c n hd tl = record { code = c; used = cond (eqb c 0) (used n hd tl) 0 
 
 -- the number of a send's look: 1, 2 and 3, then 4 'message to send .. is malformed', then what it finds. With whether the state fits,
 -- the own tail, the message's length and first two dwords, the descriptor and N
-unfoldable pub sendLookNumber : Bool → ℕ → ℕ → ℕ → ℕ → List ℕ → ℕ → ℕ
-sendLookNumber fits own len header word d n =
+unfoldable pub sendDecision : Bool → ℕ → ℕ → ℕ → ℕ → List ℕ → ℕ → ℕ
+sendDecision fits own len header word d n =
     entry (length d) n fits (need (startsMessage len header word) 4 (sendFound n own len (status d) (head d) (tail d)))
 
 -- what a receive's look finds at an own head, with the header that lies there
@@ -53,8 +53,8 @@ abbrev pub foundWith : ℕ → List ℕ → ℕ → ℕ → ℕ
 foundWith own d n header = receiveFound n own (status d) (head d) (tail d) header
 
 -- the number of a receive's look: 1, 2 and 3, then what it finds
-unfoldable pub receiveLookNumber : Bool → ℕ → List ℕ → ℕ → ℕ → ℕ
-receiveLookNumber fits own d n header = entry (length d) n fits (foundWith own d n header)
+unfoldable pub receiveDecision : Bool → ℕ → List ℕ → ℕ → ℕ → ℕ
+receiveDecision fits own d n header = entry (length d) n fits (foundWith own d n header)
 
 -- the number of a whole receive but for 13: 1, 2 and 3, then 5 'output shorter than 256', then what its look finds
 unfoldable pub takeNumber : Bool → ℕ → ℕ → List ℕ → ℕ → ℕ → ℕ

@@ -4,7 +4,7 @@ ghost use mathlib.Core.Path.{_≡_};
 ghost use Prim.Native.Nat.{_≤_, _<_};
 ghost use lib.ListN.{length, getD};
 ghost use Rattle.ring.specs.Ring.{window};
-ghost use Rattle.ring.specs.Numbers.{foundWith, receiveLookNumber, takeNumber};
+ghost use Rattle.ring.specs.Numbers.{foundWith, receiveDecision, takeNumber};
 ghost use Rattle.ring.specs.AtOnce.{seen, ended, receive};
 use crate::memory::HEAD;
 use crate::memory::STATUS;
@@ -48,7 +48,7 @@ fn found(own: usize, desc: &[u32], buf: &[u32]) -> Seen
 
 // A receive's look, for a state that fits or not.
 pub fn look_header(fits: bool, own: usize, desc: &[u32], buf: &[u32]) -> Seen
-    ensures { λ r. ⌜ r ≡ seen (receiveLookNumber fits own (now (desc .entry)) (length (now (buf .entry))) (getD (now (buf .entry)) own 0)) own (now (buf .entry)) ⌝ }
+    ensures { λ r. ⌜ r ≡ seen (receiveDecision fits own (now (desc .entry)) (length (now (buf .entry))) (getD (now (buf .entry)) own 0)) own (now (buf .entry)) ⌝ }
 {
     let code = entry(desc.len(), buf.len(), fits, 0);
     if code != 0 {

@@ -2,7 +2,7 @@
 // what is stored. What decides is lent no message, what stores no descriptor, what publishes no ring.
 ghost use mathlib.Core.Path.{_≡_};
 ghost use mathlib.Core.List.{[]};
-ghost use Rattle.ring.specs.Numbers.{sendLookNumber};
+ghost use Rattle.ring.specs.Numbers.{sendDecision};
 ghost use Rattle.ring.specs.AtOnce.{ended, send};
 use crate::memory::HEAD;
 use crate::memory::STATUS;
@@ -33,7 +33,7 @@ pub fn look_number(
     header: u32,
     word: u32,
 ) -> u32
-    ensures { λ r. ⌜ r ≡ sendLookNumber fits own len header word (now (desc .entry)) n ⌝ }
+    ensures { λ r. ⌜ r ≡ sendDecision fits own len header word (now (desc .entry)) n ⌝ }
 {
     let formed = message::starts_message(len, header, word);
     let code = entry(desc.len(), n, fits, refuse(formed, 4, 0));

@@ -12,20 +12,21 @@ use borrow.Rule.Slice.PartMut.{midOf, putMid}
 use lib.Dec.{eqb}
 use borrow.Author.Tests.{eqb-true}
 use Rattle.message.proofs.Tests.{and-l, and-r}
-use Rattle.channel.specs.State.{State, state, zeros, allZero, idleAt, idle}
-use Rattle.channel.specs.AtOnce.{AtOnce, ended, send, sendBy, receive, receiveBy, receiveNumber, takeNumber, lengthAt}
-use Rattle.channel.specs.declared.state.Ended.{Ended}
+use Rattle.channel.specs.State.{State, state, countsOf, counted, zeros, allZero, idleAt, idle, activeSend, activeReceive}
+use Rattle.ring.specs.AtOnce.{AtOnce, ended, numberAt, send, sendBy, receive, receiveBy, receiveNumber, lengthAt}
+use Rattle.ring.specs.declared.sending.Ended.{Ended}
 use Rattle.message.specs.Header.{totalLength}
-use Rattle.channel.specs.Ring.{HEAD}
-use Rattle.channel.specs.Numbers.{marked}
+use Rattle.ring.specs.Ring.{HEAD}
+use Rattle.ring.specs.Numbers.{marked, takeNumber}
 use Rattle.channel.specs.Send
 use Rattle.channel.specs.Receive
-use Rattle.channel.specs.Words.{stateOf, outcome}
-use Rattle.channel.proofs.Runs.{drop-replicate, put-front}
-use Rattle.channel.proofs.Chains.{cases, true-false}
-use Rattle.channel.proofs.Taken.{taken-has, take-not-13}
+use Rattle.side.specs.Words.{stateOf, outcome}
+use Rattle.ring.proofs.Straight.{drop-replicate, put-front}
+use Rattle.ring.proofs.Chains.{cases, true-false}
+use Rattle.ring.proofs.Taken.{taken-has, take-not-13}
 use Rattle.channel.proofs.ReceiveAtOnce.{receive-method}
-use Rattle.channel.proofs.SendAtOnce.{Accepted, accepted, send-method}
+use Rattle.channel.proofs.SendAtOnce.{send-method}
+use Rattle.ring.proofs.Sent.{Accepted, accepted}
 
 -- 260 words are four numbers and a copy
 pub four : (P : List ℕ → Type 0) → ((n own len moved : ℕ) (copy : List ℕ) → length copy ≡ 256 → P (n ∷ own ∷ len ∷ moved ∷ copy)) → (w : List ℕ) → length w ≡ 260 → P w
@@ -140,6 +141,19 @@ pub copy-at : (k : ℕ) (w : List ℕ) → getD w (4 + k) 0 ≡ getD (stateOf w 
 unfolding stateOf
 copy-at k w = sym (getD-drop 4 w k 0)
 
+-- the state is judged by its numbers and the first words of its copy
+pub words-sending : (n : ℕ) (w : List ℕ) → activeSend n (counted (countsOf (stateOf w)) (getD w 4 0 ∷ getD w 5 0 ∷ [])) ≡ activeSend n (stateOf w)
+unfolding activeSend
+words-sending n w = rw (copy-at 0 w, copy-at 1 w)
+
+pub words-receiving : (n : ℕ) (w : List ℕ) → activeReceive n (counted (countsOf (stateOf w)) (getD w 4 0 ∷ [])) ≡ activeReceive n (stateOf w)
+unfolding activeReceive
+words-receiving n w = rw (copy-at 0 w)
+
+pub words-publish : (o d n : ℕ) (w : List ℕ) → Receive.publishNumberOf (counted (countsOf (stateOf w)) (getD w 4 0 ∷ getD w 5 0 ∷ [])) o d n ≡ Receive.publishNumberOf (stateOf w) o d n
+unfolding Receive.publishNumberOf activeReceive
+words-publish o d n w = rw (copy-at 0 w, copy-at 1 w)
+
 -- a look that accepts, of a send and of a receive
 pub send-looked : (s : State) (m d b : List ℕ) → Send.lookBy 0 s m d b ≡ record { code = 0; len = 0; next = Send.loaded s m; desc = d; buf = b; out = [] }
 unfolding Send.lookBy marked
@@ -180,7 +194,7 @@ made x y w h e = n-set x w h ∙ rw e
 
 -- a whole send, with the state in words
 module _ (w m d b : List ℕ) (h : length w ≡ 260) (r : Ended) (d′ b′ : List ℕ) (e : ended r d′ b′ [] ≡ send (idle (length b) (stateOf w)) (stateOf w .own) m d b) where
-  number : r .code ≡ 0 → Send.numberAt (idle (length b) (stateOf w)) (stateOf w .own) m d (length b) ≡ 0
+  number : r .code ≡ 0 → numberAt (idle (length b) (stateOf w)) (stateOf w .own) m d (length b) ≡ 0
   unfolding sendBy
   number z = sym (ap (λ (x : AtOnce). x .code) e) ∙ z
 

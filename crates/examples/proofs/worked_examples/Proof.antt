@@ -7,9 +7,9 @@ use Rattle.message.specs.Fields.{fit, dword}
 use Rattle.message.specs.Types.{typeOf, carried, bodyFields, bodies, ofType, bodyOf, someBody, known}
 use Rattle.message.specs.Header.{wellFormed, isMessage}
 use Rattle.message.specs.Words.{originNumber, originOf, decoded, unpack, headerFields, hxgFields, pack, refusing}
-use Rattle.channel.specs.Ring.{allowed, used, free}
+use Rattle.ring.specs.Ring.{allowed, used, free}
 use Rattle.channel.specs.State.{zeros, allZero, idle, activeSend}
-use Rattle.channel.specs.Numbers.{need, entry, found, sendFound, receiveFound, marked}
+use Rattle.ring.specs.Numbers.{need, entry, found, sendFound, receiveFound, sendDecision, receiveDecision, marked}
 use Rattle.channel.specs.Opening.{openNumber, openBy}
 use Rattle.channel.specs.Send
 use Rattle.channel.specs.Receive
@@ -35,7 +35,7 @@ unfolding
     fit dword typeOf carried bodyFields bodies ofType bodyOf someBody known wellFormed isMessage originNumber originOf
     decoded unpack Option·elim headerFields hxgFields pack refusing
     allowed used free zeros allZero idle activeSend need entry found sendFound receiveFound marked openNumber openBy
-    Send.numberAt Send.lookBy Send.moveNumber Send.moveBy Send.publishNumber Send.publishBy Send.moves Send.rest Receive.lookNumber Receive.lookBy
+    sendDecision Send.lookBy Send.moveNumber Send.moveBy Send.publishNumber Send.publishBy Send.moves Send.rest receiveDecision Receive.lookBy
     dwordAt Css.sizes Css.agree Css.laid Css.number Css.truncated Css.shown Css.place
     Cpd.all Cpd.first Cpd.isName Cpd.marked Cpd.directoryNumber Cpd.firstEntry Cpd.number Cpd.place
 examples =

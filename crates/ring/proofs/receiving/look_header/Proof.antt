@@ -5,13 +5,13 @@ use lib.ListN.{length, getD}
 use denote.Ref.{now}
 use borrow.Author.Needs.{needs}
 use borrow.Author.Tests.{ne-eqb}
-use Rattle.ring.specs.Numbers.{foundWith, need, receiveLookNumber}
+use Rattle.ring.specs.Numbers.{foundWith, need, receiveDecision}
 use Rattle.ring.proofs.Chains.{entry-none, entry-one}
 use Rattle.ring.proofs.receiving.look_header.Statement.{statement}
 use Rattle.ring.proofs.receiving.look_header.Tie as tie
 
 returns : tie.Need-returns
-unfolding need receiveLookNumber
+unfolding need receiveDecision
 returns c =
     let a = c .before .before .before .before .args in
     let n = length (now (a .buf)) in
@@ -20,7 +20,7 @@ returns c =
     rw (e, ne-eqb _ _ (c .if1 .taken))
 
 returns-2 : tie.Need-returns-2
-unfolding need receiveLookNumber
+unfolding need receiveDecision
 returns-2 c =
     let a = c .before .before .before .before .before .args in
     let n = length (now (a .buf)) in

@@ -1,20 +1,20 @@
 -- `sending::look_number` meets its contract: 1 to 4 are judged first, and past them the descriptor's words decide. Assumes nothing.
 use mathlib.Core.Path.{_≡_, refl, sym, _∙_}
 use borrow.Author.Needs.{needs}
-use Rattle.ring.specs.Numbers.{sendLookNumber}
+use Rattle.ring.specs.Numbers.{sendDecision}
 use Rattle.ring.proofs.Chains.{entry-none, entry-one}
 use Rattle.ring.proofs.sending.look_number.Statement.{statement}
 use Rattle.ring.proofs.sending.look_number.Tie as tie
 
 returns : tie.Need-returns
-unfolding sendLookNumber
+unfolding sendDecision
 returns c =
     let s = c .before in
     let e = rw (s .before .refuse .ensures, s .before .before .starts-message .ensures) at (s .entry .ensures) in
     sym (entry-one _ _ _ _ 4 _ _ (sym e) (c .if1 .taken))
 
 returns-2 : tie.Need-returns-2
-unfolding sendLookNumber
+unfolding sendDecision
 returns-2 c =
     let f = c .before .before .before .before .before .before .before in
     let s = f .before in

@@ -1,0 +1,54 @@
+-- `receiving::receive` meets its contract: the state's numbers and its zeros say whether it is idle, and an accepted call moves its own offset. Assumes nothing.
+use Prim.Native.Nat.{_<_, _^_}
+use mathlib.Core.Path.{_≡_, ap}
+use native.Mathlib.Omega.{arith}
+use lib.ListN.{length}
+use denote.Ref.{now}
+use borrow.Author.Needs.{needs}
+use borrow.Author.Tests.{ne-eqb}
+use Rattle.channel.specs.declared.state.Counts.{Counts}
+use Rattle.ring.specs.AtOnce.{ended, receive}
+use Rattle.channel.specs.State.{idle}
+use Rattle.side.specs.Words.{stateOf}
+use Rattle.side.proofs.InWords.{received-own, received-whole, received-refused}
+use Rattle.side.proofs.receiving.receive.Statement.{statement}
+use Rattle.side.proofs.receiving.receive.Tie as tie
+
+-- what the whole call at once says of the state in the words
+said : (q : tie.After-whole-receive) → let a = q .before .before .before .before .before .before .before .before .before .before .before .before .args in ended (q .whole-receive .result) (q .whole-receive .last .1 .1 .0) (now (a .buf)) (q .whole-receive .last .1 .1 .1 .1 .0) ≡ receive (idle (length (now (a .buf))) (stateOf (now (a .w)))) (stateOf (now (a .w)) .own) (now (a .out)) (now (a .desc)) (now (a .buf))
+said q = rw (q .before .before .before .is-idle .ensures, ap (λ (x : Counts). x .own) (q .before .before .before .before .before .before .counts-of .ensures)) at (q .whole-receive .ensures)
+
+cast-w : tie.Need-cast-w
+cast-w c =
+    let q = c .before .before .before .before .before .before .before .before in
+    let a = q .before .before .before .before .before .before .before .before .before .before .before .before .args in
+    let l : q .whole-receive .result .own < 2 ^ 32 = received-own (now (a .w)) (now (a .out)) (now (a .desc)) (now (a .buf)) (search needs) (q .whole-receive .result) _ _ (said q) (c .before .if1 .taken) in
+    omega (arith, l)
+
+returns : tie.Need-returns
+returns c =
+    let q = c .before .before .before .before .before .before .before .before in
+    let a = q .before .before .before .before .before .before .before .before .before .before .before .before .args in
+    received-whole (now (a .w)) (now (a .out)) (now (a .desc)) (now (a .buf)) (search needs) (q .whole-receive .result) _ _ (said q) (c .before .if1 .taken)
+
+returns-2 : tie.Need-returns-2
+returns-2 c =
+    let q = c .before .before .before .before .before .before .before in
+    let a = q .before .before .before .before .before .before .before .before .before .before .before .before .args in
+    received-refused (now (a .w)) (now (a .out)) (now (a .desc)) (now (a .buf)) (search needs) (q .whole-receive .result) _ _ (said q) (c .if1 .left)
+
+pub receive-spec : {M : Type 1} → statement M
+receive-spec =
+    tie.close
+    (tie.spec
+    (λ c κs. search needs)
+    (λ c κs. search needs)
+    (λ c κs. search needs)
+    cast-w
+    (λ c. search needs)
+    (λ c. search needs)
+    (λ c. search needs)
+    returns
+    (λ c. search needs)
+    (λ c. search needs)
+    returns-2)

@@ -1,0 +1,55 @@
+-- `sending::send` meets its contract: the state's numbers and its zeros say whether it is idle, and an accepted call moves its own offset. Assumes nothing.
+use Prim.Native.Nat.{_<_, _^_}
+use mathlib.Core.Path.{_≡_, ap}
+use native.Mathlib.Omega.{arith}
+use lib.ListN.{length}
+use denote.Ref.{now}
+use borrow.Author.Needs.{needs}
+use borrow.Author.Tests.{ne-eqb}
+use Rattle.channel.specs.declared.state.Counts.{Counts}
+use Rattle.ring.specs.AtOnce.{ended, send}
+use Rattle.channel.specs.State.{idle}
+use Rattle.side.specs.Words.{stateOf}
+use Rattle.side.proofs.InWords.{sent-own, sent-whole, sent-refused}
+use mathlib.Core.List.{[]}
+use Rattle.side.proofs.sending.send.Statement.{statement}
+use Rattle.side.proofs.sending.send.Tie as tie
+
+-- what the whole call at once says of the state in the words
+said : (q : tie.After-whole-send) → let a = q .before .before .before .before .before .before .before .before .before .before .before .before .args in ended (q .whole-send .result) (q .whole-send .last .1 .1 .0) (q .whole-send .last .1 .1 .1 .0) [] ≡ send (idle (length (now (a .buf))) (stateOf (now (a .w)))) (stateOf (now (a .w)) .own) (now (a .msg)) (now (a .desc)) (now (a .buf))
+said q = rw (q .before .before .before .is-idle .ensures, ap (λ (x : Counts). x .own) (q .before .before .before .before .before .before .counts-of .ensures)) at (q .whole-send .ensures)
+
+cast-w : tie.Need-cast-w
+cast-w c =
+    let q = c .before .before .before .before .before .before .before in
+    let a = q .before .before .before .before .before .before .before .before .before .before .before .before .args in
+    let l : q .whole-send .result .own < 2 ^ 32 = sent-own (now (a .w)) (now (a .msg)) (now (a .desc)) (now (a .buf)) (search needs) (q .whole-send .result) _ _ (said q) (c .before .if1 .taken) in
+    omega (arith, l)
+
+returns : tie.Need-returns
+returns c =
+    let q = c .before .before .before .before .before .before .before in
+    let a = q .before .before .before .before .before .before .before .before .before .before .before .before .args in
+    sent-whole (now (a .w)) (now (a .msg)) (now (a .desc)) (now (a .buf)) (search needs) (q .whole-send .result) _ _ (said q) (c .before .if1 .taken)
+
+returns-2 : tie.Need-returns-2
+returns-2 c =
+    let q = c .before .before .before .before .before .before in
+    let a = q .before .before .before .before .before .before .before .before .before .before .before .before .args in
+    sent-refused (now (a .w)) (now (a .msg)) (now (a .desc)) (now (a .buf)) (search needs) (q .whole-send .result) _ _ (said q) (ne-eqb _ _ (c .if1 .left))
+
+pub send-spec : {M : Type 1} → statement M
+send-spec =
+    tie.close
+    (tie.spec
+    (λ c κs. search needs)
+    (λ c κs. search needs)
+    (λ c κs. search needs)
+    cast-w
+    (λ c. search needs)
+    (λ c. search needs)
+    (λ c. search needs)
+    returns
+    (λ c. search needs)
+    (λ c. search needs)
+    returns-2)

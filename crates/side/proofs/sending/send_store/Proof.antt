@@ -1,0 +1,74 @@
+-- `sending::send_store` meets its contract: a number other than 0 leaves all; after 0 the state is active and fits. Assumes nothing.
+use Prim.Native.Nat.{_≤_, _<_}
+use mathlib.Core.Path.{_≡_, refl, sym, ap, _∙_}
+use native.Mathlib.Omega.{arith}
+use lib.ListN.{length}
+use denote.Ref.{now}
+use borrow.Author.Needs.{needs}
+use borrow.Author.Tests.{ltb-true, ne-eqb}
+use Rattle.channel.specs.Send
+use Rattle.channel.specs.State.{countsOf}
+use Rattle.channel.specs.declared.state.Counts.{Counts}
+use Rattle.channel.proofs.Going.{Going, going-place, going-send, going-test}
+use Rattle.side.specs.Words.{stateOf}
+use Rattle.side.proofs.InWords.{moved-set, words-sending}
+use Rattle.side.proofs.sending.send_store.Statement.{statement}
+use Rattle.side.proofs.sending.send_store.Tie as tie
+
+-- the number is that of a move
+number : (q : tie.After-sending-number) → let a = q .before .before .before .before .before .before .before .before .before .args in q .sending-number .result ≡ Send.moveNumber (stateOf (now (a .w))) (now (a .desc)) (now (a .buf))
+unfolding Send.moveNumber
+number q = rw (q .before .before .before .before .counts-of .ensures, words-sending) at (q .sending-number .ensures)
+
+returns : tie.Need-returns
+unfolding Send.moveBy
+returns c = simp (← number (c .before), ne-eqb _ _ (c .if1 .taken))
+
+-- what a step that goes on has
+fits : (c : tie.Else1) → let a = c .before .before .before .before .before .before .before .before .before .before .args in Going (length (now (a .buf))) (stateOf (now (a .w)))
+unfolding Send.moveNumber
+fits c = going-send _ _ _ _ 0 refl refl refl (sym (number (c .before)) ∙ c .if1 .left)
+
+below : (c : tie.Else1) → let s = stateOf (now (c .before .before .before .before .before .before .before .before .before .before .args .w)) in s .moved < s .len
+unfolding Send.moveNumber
+below c = ltb-true _ _ (going-test _ _ _ _ (sym (number (c .before)) ∙ c .if1 .left))
+
+moved-is : (c : tie.Else1) → c .before .before .before .before .before .counts-of .result .moved ≡ stateOf (now (c .before .before .before .before .before .before .before .before .before .before .args .w)) .moved
+moved-is c = ap (λ (x : Counts). x .moved) (c .before .before .before .before .before .counts-of .ensures)
+
+copy-dword-requires : tie.Need-copy-dword-requires
+copy-dword-requires c κs =
+    let e = c .before .before in
+    (refl, refl, omega (arith, moved-is e, below e, fits e .short))
+
+add-w : tie.Need-add-w
+add-w c = let e = c .before .before .before .before .before .before .before .before in omega (arith, moved-is e, below e, fits e .short)
+
+cast-w : tie.Need-cast-w
+cast-w c = let e = c .before .before .before .before .before .before .before .before in omega (arith, moved-is e, below e, fits e .short)
+
+returns-2 : tie.Need-returns-2
+unfolding Send.moveBy
+returns-2 c =
+    let e = c .before .before .before .before .before .before .before .before in
+    let w = now (e .before .before .before .before .before .before .before .before .before .before .args .w) in
+    let own = ap (λ (x : Counts). x .own) (e .before .before .before .before .before .counts-of .ensures) in
+    simp (← number (e .before), e .if1 .left, c .before .before .put .ensures, c .before .before .before .past .ensures .0, own, c .before .before .before .before .before .copy-dword .ensures, moved-is e, going-place _ _ (fits e), moved-set w (search needs))
+
+pub send-store-spec : {M : Type 1} → statement M
+send-store-spec =
+    tie.close
+    (tie.spec
+    (λ c κs. search needs)
+    (λ c. search needs)
+    (λ c. search needs)
+    (λ c κs. search needs)
+    returns
+    copy-dword-requires
+    (λ c κs. search needs)
+    (λ c κs. search needs)
+    add-w
+    cast-w
+    (λ c. search needs)
+    (λ c. search needs)
+    returns-2)

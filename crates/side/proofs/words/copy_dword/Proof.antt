@@ -1,0 +1,26 @@
+-- `words::copy_dword` meets its contract: the first two dwords are those words of the state. Assumes nothing.
+use mathlib.Core.Path.{_∙_}
+use denote.Ref.{now}
+use borrow.Author.Needs.{needs}
+use Rattle.side.proofs.InWords.{copy-at}
+use Rattle.side.proofs.words.copy_dword.Statement.{statement}
+use Rattle.side.proofs.words.copy_dword.Tie as tie
+
+returns : tie.Need-returns
+returns c = rw (c .if1 .taken) (c .before .before .pre .0 ∙ copy-at 0 (now (c .before .before .args .w)))
+
+returns-2 : tie.Need-returns-2
+returns-2 c = rw (c .if2 .taken) (c .before .before .before .pre .1 ∙ copy-at 1 (now (c .before .before .before .args .w)))
+
+returns-3 : tie.Need-returns-3
+returns-3 c = c .dword-at .ensures ∙ copy-at (c .before .before .before .before .args .k) (now (c .before .before .before .before .args .w))
+
+pub copy-dword-spec : {M : Type 1} → statement M
+copy-dword-spec =
+    tie.close
+    (tie.spec
+    returns
+    returns-2
+    (λ c. search needs)
+    (λ c κs. search needs)
+    returns-3)
