@@ -148,7 +148,8 @@ void lay_inner_rewritten(unsigned v)
 	lay_directory();
 	asked.which = v % 4;
 	if (v < 4)
-		rewritten_units(asked.blob + ENTRY(1) + OFFSET, 8, 4, both(200, 404), both(604, 396));
+		rewritten_units(asked.blob + ENTRY(1) + OFFSET, 8, 4, both(200, 404),
+				both(604, 396));
 	else
 		rewrite_sizes(asked.blob + 200);
 	rewritten(asked.blob + 200 + 64, 4, 0x00010203u, 0x00040506u);
@@ -161,5 +162,19 @@ void lay_manifest_rewritten(unsigned v)
 	lay_directory();
 	rewritten_units(asked.blob + ENTRY(2) + OFFSET, 8, 4, both(160, 44),
 			v ? both(956, 44) : both(996, 4));
+	listen_still();
+}
+
+/* A message to unpack: another fence or length, another type and its fields. */
+void lay_unpacked_rewritten(unsigned v)
+{
+	static const uint32_t header[3] = { 0xBEEF0003u, 0x12340004u, 0x12341003u };
+	static const uint32_t word[3] = { 0xE0AB0010u, 0x7FFFFFFFu, 0x20000000u };
+
+	lay_directory();
+	open_at(0, 0);
+	ch.len = 4;
+	rewritten(ch.msg, 4, 0x12340003u, header[v]);
+	rewritten(ch.msg + 1, 4, 0x01234567u, word[v]);
 	listen_still();
 }

@@ -1,10 +1,12 @@
 /*
- * Firmware calls whose blob or sought name is rewritten while they run. What
- * can be demanded: two words may be read at two moments, but a call that reads
- * each word once answers what it would for a blob that stands still with some
- * choice of the faces. Those answers are taken first, one for each choice, from
- * still memory (interop/run holds them against the model). Any other answer is
- * bad, and so is every part that ends beyond its blob.
+ * Firmware calls whose blob or sought name is rewritten while they run, and
+ * unpacking, whose message is. What can be demanded of an answer: two words may
+ * be read at two moments, but a call that reads each word once answers what it
+ * would for memory that stands still with some choice of the faces. Those
+ * answers are taken first, one for each choice, from still memory (interop/run
+ * holds them against the model). Any other answer is bad, and so is every part
+ * that ends beyond its blob. Dwords count as read at one moment, names byte by
+ * byte.
  */
 #include "blobs.h"
 
@@ -17,6 +19,7 @@ struct said {
 };
 
 static struct said said, still[256];
+static const char *shape; /* what the values are */
 
 static uint8_t *dst(void)
 {
@@ -29,19 +32,22 @@ static void keep(uint32_t code, uint64_t a, uint64_t b, uint64_t c, uint64_t d)
 
 	answer = code;
 	said = s;
+	shape = "values";
 }
 
 static void keep_part(struct guc_part p)
 {
 	keep(p.code, p.start, p.len, 0, 0);
 	said.beyond = p.start + p.len;
+	shape = "start, len";
 }
 
 static void keep_copied(struct guc_copied c)
 {
 	size_t k;
 
-	keep(c.code, 0, c.len, 0, 0);
+	keep(c.code, c.len, 0, 0, 0);
+	shape = "len of a copy";
 	for (k = 0; k < asked.room; k++)
 		said.sum = said.sum * 31 + dst()[k];
 }
@@ -58,7 +64,8 @@ static void cpd_part(void)
 
 static void cpd_copy(void)
 {
-	keep_copied(guc_cpd_copy(asked.blob, LENGTH, asked.name, asked.name_len, dst(), asked.room));
+	keep_copied(guc_cpd_copy(asked.blob, LENGTH, asked.name, asked.name_len, dst(),
+				 asked.room));
 }
 
 static void css_part(void)
@@ -112,6 +119,14 @@ static void manifest(void)
 	keep(m.code, m.major, m.minor, m.hotfix, m.build);
 }
 
+static void unpack(void)
+{
+	struct guc_unpacked u = guc_unpack(ch.msg, ch.len);
+
+	keep(u.code, (uint64_t)u.origin << 32 | u.fence, u.num_dwords, u.type,
+	     (uint64_t)u.first << 32 | u.second);
+}
+
 static void reset(void)
 {
 	memset(asked.dst, 0xEE, ROOM);
@@ -142,8 +157,8 @@ static const char *judge(void)
 	for (k = 0; k < choices(); k++)
 		if (memcmp(&said, &still[k], sizeof(said)) == 0)
 			return NULL;
-	return complain("answer %u with %lu, %lu, %lu: of no blob that stands still", answer,
-			(unsigned long)said.value[1], (unsigned long)said.value[2],
+	return complain("answer %u, %s %lu %lu %lu: of no memory that stands still", answer,
+			shape, (unsigned long)said.value[1], (unsigned long)said.value[2],
 			(unsigned long)said.value[3]);
 }
 
@@ -162,5 +177,6 @@ const struct scene blob_scenes[] = {
 	{ "guc_huc_answer, sizes", 8, lay_inner_rewritten, reset, huc_answer, judge, 0 },
 	{ "guc_huc_version, version", 8, lay_inner_rewritten, reset, huc_version, judge, 0 },
 	{ "guc_manifest_version, entry", 2, lay_manifest_rewritten, reset, manifest, judge, 0 },
+	{ "guc_unpack, message", 3, lay_unpacked_rewritten, reset, unpack, judge, 0 },
 	{ 0, 0, 0, 0, 0, 0, 0 },
 };

@@ -29,6 +29,7 @@ void lay_name_rewritten(unsigned v);
 void lay_sizes_rewritten(unsigned v);
 void lay_inner_rewritten(unsigned v);
 void lay_manifest_rewritten(unsigned v);
+void lay_unpacked_rewritten(unsigned v);
 
 /* Takes the answers of still memory, one for each choice of faces. */
 void listen_still(void);

@@ -1,29 +1,32 @@
 /*
  * Runs each scene twice: with a second thread that rewrites the words all the
  * time, and with a rewrite between two touches of the lent memory, where each
- * touch is a page fault. The first is the real thing and chance decides what
- * it hits; the second is the same for a seed on any machine. Usage:
+ * touch is a page fault. The first is the real thing, and chance decides what
+ * it hits; of the second a seed's calls are the same on any machine, the time
+ * only says how many there are. Usage:
  *   hostile [seed [calls of the two attacks of the audit]]
  */
 #define _GNU_SOURCE
 #include "engine.h"
 
 #include <pthread.h>
+#include <sched.h>
 #include <stdarg.h>
 #include <stdatomic.h>
 #include <stdio.h>
 #include <stdlib.h>
 #include <time.h>
 
-#define CALLS 1000000ul   /* a scene by thread, unless the time is up before */
+#define CALLS 2000000ul   /* a scene by thread, unless the time is up before */
 #define SECONDS 0.6       /* a scene by thread */
 #define TOUCH_SECONDS 0.3 /* a scene by touch */
 #define LONG_SECONDS 900.0
+#define RACED 100         /* calls that the thread must have hit, at least */
 
 struct tally {
 	unsigned long calls, raced, taken, bad, showed[2];
 	double began;
-	char first[160]; /* what was wrong the first time */
+	char first[176]; /* what was wrong the first time, in which variant */
 };
 
 uint32_t answer;
@@ -120,7 +123,7 @@ static double now(void)
 	return (double)t.tv_sec + (double)t.tv_nsec / 1e9;
 }
 
-static void count(const struct scene *s, struct tally *t, int raced)
+static void count(const struct scene *s, struct tally *t, int raced, unsigned variant)
 {
 	const char *wrong = s->judge();
 
@@ -129,7 +132,7 @@ static void count(const struct scene *s, struct tally *t, int raced)
 	t->taken += answer == GUC_OK;
 	t->showed[showed]++;
 	if (wrong && t->bad++ == 0)
-		snprintf(t->first, sizeof(t->first), "%s", wrong);
+		snprintf(t->first, sizeof(t->first), "(v%u) %s", variant, wrong);
 }
 
 /* Rounds of rewriting, with pauses so that all phases of a call are met. */
@@ -164,6 +167,8 @@ static void by_thread(const struct scene *s, struct tally *t, uint64_t seed)
 		atomic_store(&rounds, 0);
 		if (pthread_create(&thread, NULL, writer, &seed))
 			exit(2);
+		while (!atomic_load(&rounds))
+			sched_yield();
 		until = now() + slice;
 		for (k = 0; k < quota && (k % 64 || now() < until); k++) {
 			unsigned long before;
@@ -171,7 +176,7 @@ static void by_thread(const struct scene *s, struct tally *t, uint64_t seed)
 			s->reset();
 			before = atomic_load_explicit(&rounds, memory_order_relaxed);
 			s->call();
-			count(s, t, before != atomic_load_explicit(&rounds, memory_order_relaxed));
+			count(s, t, before != atomic_load_explicit(&rounds, memory_order_relaxed), v);
 		}
 		atomic_store(&stop, 1);
 		pthread_join(thread, NULL);
@@ -184,27 +189,30 @@ static void by_touch(const struct scene *s, struct tally *t, uint64_t seed)
 	unsigned k, v;
 
 	for (v = 0; v < s->variants; v++) {
+		uint64_t x = seed * 64 + v; /* not 0: seed isn't */
+
 		named = 0;
 		s->lay(v);
 		until = now() + slice;
-		for (k = 0; k < 2000 && now() < until; k++) {
+		for (k = 0; k < 2000 && (k < 20 || now() < until); k++) {
 			s->reset();
-			put_faces((unsigned)next_random(&seed) & 255);
-			touches_begin(&seed, k % 6);
+			put_faces((unsigned)next_random(&x) & 255);
+			touches_begin(&x, k % 6);
 			s->call();
-			count(s, t, touches_end() != 0);
+			count(s, t, touches_end() != 0, v);
 		}
 	}
 }
 
 /* A scene whose race never showed proves nothing, and that is said. */
-static void tell(const struct scene *s, const char *by, const struct tally *t, uint64_t seed)
+static void tell(const struct scene *s, const char *by, const struct tally *t, uint64_t seed,
+		 unsigned long least)
 {
 	printf("%-27s %-6s %8lu %8lu %8lu %7lu %5.1f %4lu\n", s->name, by, t->calls, t->raced,
 	       t->taken, t->bad, now() - t->began, (unsigned long)seed);
 	if (t->bad)
-		printf("    bad: %s\n", t->first);
-	if (!t->raced || !t->showed[0] || !t->showed[1]) {
+		printf("    bad %s\n", t->first);
+	if (t->raced < least || !t->showed[0] || !t->showed[1]) {
 		printf("    nothing shown: raced %lu, outcomes %lu and %lu; two processors?\n",
 		       t->raced, t->showed[0], t->showed[1]);
 		idle_scenes++;
@@ -221,10 +229,10 @@ static void run(const struct scene *s, uint64_t *seed)
 
 		current = s;
 		by_thread(s, &thread, *seed);
-		tell(s, "thread", &thread, *seed);
+		tell(s, "thread", &thread, *seed, RACED);
 		touch.began = now();
 		by_touch(s, &touch, *seed);
-		tell(s, "touch", &touch, *seed);
+		tell(s, "touch", &touch, *seed, 1);
 	}
 }
 

@@ -26,7 +26,7 @@ static void lay_pending(uint32_t own, size_t len)
 }
 
 /* The first two dwords: header good or another, type known or not. */
-static void lay_rewritten_ring(unsigned v)
+static void lay_ring(unsigned v)
 {
 	static const uint32_t other[6] = { 7, 0x1003, 199, 0, 0x103, 19 };
 	uint32_t good = 0x43210003u;
@@ -119,7 +119,8 @@ static const char *judge_ring(void)
 		return judge_malformed();
 	if (answer == GUC_OK) {
 		if (ch.desc[GUC_DESC_HEAD] != after((uint32_t)got.len))
-			return complain("taken, L %u, HEAD %u", (unsigned)got.len, ch.desc[GUC_DESC_HEAD]);
+			return complain("taken, L %u, HEAD %u", (unsigned)got.len,
+					ch.desc[GUC_DESC_HEAD]);
 		return judge_laid();
 	}
 	if (answer != GUC_UNDERFLOW || got.len != 0 || ch.desc[GUC_DESC_STATUS] != 2)
@@ -130,11 +131,12 @@ static const char *judge_ring(void)
 }
 
 /* Each word is the good one or one that 6, 7, 8, 9 or 11 refuses, or another good one. */
-static void lay_rewritten_descriptor(unsigned v)
+static void lay_descriptor(unsigned v)
 {
 	uint32_t own = v % 2 ? N - 2 : 300, len = 6;
 	const uint32_t head[6] = { N, (own + 1) % N, 0xFFFFFFFFu, own + N, 0, own };
-	const uint32_t tail[6] = { own, N, (own + 5) % N, (own + 9) % N, 0xFFFFFFFFu, (own + 700) % N };
+	const uint32_t tail[6] = { own, N, (own + 5) % N, (own + 9) % N, 0xFFFFFFFFu,
+				   (own + 700) % N };
 
 	lay_pending(own, len);
 	rewritten(ch.desc + GUC_DESC_HEAD, 4, own, head[v]);
@@ -164,9 +166,9 @@ static const char *judge_descriptor(void)
 }
 
 const struct scene receive_scenes[] = {
-	{ "guc_receive, ring", 6, lay_rewritten_ring, reset_receive, whole, judge_ring, 0 },
-	{ "receive steps, ring", 6, lay_rewritten_ring, reset_receive, steps, judge_ring, 0 },
-	{ "guc_receive, descriptor", 6, lay_rewritten_descriptor, reset_out, whole, judge_descriptor, 0 },
-	{ "receive steps, descriptor", 6, lay_rewritten_descriptor, reset_out, steps, judge_descriptor, 0 },
+	{ "guc_receive, ring", 6, lay_ring, reset_receive, whole, judge_ring, 0 },
+	{ "receive steps, ring", 6, lay_ring, reset_receive, steps, judge_ring, 0 },
+	{ "guc_receive, descriptor", 6, lay_descriptor, reset_out, whole, judge_descriptor, 0 },
+	{ "receive steps, descriptor", 6, lay_descriptor, reset_out, steps, judge_descriptor, 0 },
 	{ 0, 0, 0, 0, 0, 0, 0 },
 };

@@ -21,11 +21,12 @@ static void lay_message(uint32_t own, size_t len)
 }
 
 /* The header is the right one or a wrong one, the type is known or not. */
-static void lay_rewritten_message(unsigned v)
+static void lay_faces(unsigned v)
 {
 	size_t len = lengths[v];
 	uint32_t good = 0x12340000u | (uint32_t)(len - 1);
-	const uint32_t bad[6] = { good + 1, good - 1, good | 0x1000, good | 0x100, good + 3, 0x12340000u };
+	const uint32_t bad[6] = { good + 1, good - 1, good | 0x1000, good | 0x100, good + 3,
+				  0x12340000u };
 
 	lay_message(v % 2 ? N - 1 : 37 * v, len);
 	rewritten(ch.msg, 4, good, bad[v]);
@@ -102,11 +103,12 @@ static const char *judge_message(void)
 }
 
 /* Each word is the good one or one that 6, 7, 8 or 10 refuses, or another good one. */
-static void lay_rewritten_descriptor(unsigned v)
+static void lay_descriptor(unsigned v)
 {
 	uint32_t own = v % 2 ? N - 3 : 100;
 	size_t len = lengths[v];
-	const uint32_t head[6] = { N, (own + 1) % N, 0xFFFFFFFFu, (own + (uint32_t)len + 1) % N, own + N, 7 };
+	const uint32_t head[6] = { N, (own + 1) % N, 0xFFFFFFFFu, (own + (uint32_t)len + 1) % N,
+				   own + N, 7 };
 	const uint32_t tail[6] = { own + 5, N, own + N, 0xFFFFFFFFu, (own + 1) % N, 0 };
 
 	lay_message(own, len);
@@ -142,9 +144,9 @@ static const char *judge_descriptor(void)
 }
 
 const struct scene send_scenes[] = {
-	{ "guc_send, message", 6, lay_rewritten_message, reset_send, whole, judge_message, 1 },
-	{ "send steps, message", 6, lay_rewritten_message, reset_send, steps, judge_message, 1 },
-	{ "guc_send, descriptor", 6, lay_rewritten_descriptor, reset_ring, whole, judge_descriptor, 0 },
-	{ "send steps, descriptor", 6, lay_rewritten_descriptor, reset_ring, steps, judge_descriptor, 0 },
+	{ "guc_send, message", 6, lay_faces, reset_send, whole, judge_message, 1 },
+	{ "send steps, message", 6, lay_faces, reset_send, steps, judge_message, 1 },
+	{ "guc_send, descriptor", 6, lay_descriptor, reset_ring, whole, judge_descriptor, 0 },
+	{ "send steps, descriptor", 6, lay_descriptor, reset_ring, steps, judge_descriptor, 0 },
 	{ 0, 0, 0, 0, 0, 0, 0 },
 };

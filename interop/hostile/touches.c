@@ -35,7 +35,9 @@ void *lent(size_t bytes)
 			      MAP_PRIVATE | MAP_ANONYMOUS, -1, 0);
 	struct block b = { start, whole };
 
-	if (start == MAP_FAILED || lent_blocks == BLOCKS || mprotect(start + whole, PAGE, PROT_NONE))
+	if (start == MAP_FAILED || lent_blocks == BLOCKS)
+		exit(2);
+	if (mprotect(start + whole, PAGE, PROT_NONE))
 		exit(2);
 	blocks[lent_blocks++] = b;
 	return start + whole - bytes;
@@ -60,7 +62,8 @@ static void faulted(int signal, siginfo_t *info, void *context)
 
 	(void)signal;
 	if (!watched || !inside(info->si_addr, watched)) {
-		printf("%s: touched %p, which was not lent\n", current ? current->name : "no scene", info->si_addr);
+		printf("%s: touched %p, which was not lent\n",
+		       current ? current->name : "no scene", info->si_addr);
 		fflush(stdout);
 		_exit(1);
 	}

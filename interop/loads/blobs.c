@@ -72,7 +72,8 @@ static void lent_image(size_t at, size_t bytes)
 			lent(field[k], blob + at + place[k], 4);
 	}
 	for (k = 0; k < 4 && start[k + 1] <= bytes; k++)
-		lent(which == k ? "asked" : components[k], blob + at + start[k], start[k + 1] - start[k]);
+		lent(which == k ? "asked" : components[k], blob + at + start[k],
+		     start[k + 1] - start[k]);
 }
 
 /* The directory's header and entries; found is the index of the one sought, 3 if none. */
@@ -92,7 +93,8 @@ static void lent_directory(unsigned found)
 	if (len < ENTRY(3))
 		lent("directory.else", blob + 20, len - 20);
 	for (k = 0; k < 3 && len >= ENTRY(3); k++) {
-		lent(k == found ? "found.name" : k < found ? "passed.name" : "later.name", blob + ENTRY(k), 12);
+		lent(k == found ? "found.name" : k < found ? "passed.name" : "later.name",
+		     blob + ENTRY(k), 12);
 		lent(k == found ? "found.offset" : "other.offset", blob + ENTRY(k) + 12, 4);
 		lent(k == found ? "found.length" : "other.length", blob + ENTRY(k) + 16, 4);
 		lent("directory.else", blob + ENTRY(k) + 20, 4);
@@ -132,7 +134,8 @@ static uint32_t ask_huc(enum ask a, size_t room)
 
 static void css(enum ask a, uint32_t answer, size_t bytes, const char *note)
 {
-	static const char *const called[4] = { "guc_css_answer", "guc_css_part", "guc_css_copy", "guc_css_version" };
+	static const char *const called[4] = { "guc_css_answer", "guc_css_part",
+					       "guc_css_copy", "guc_css_version" };
 	uint32_t code;
 
 	memset(blob, 0, sizeof(blob));
@@ -150,7 +153,8 @@ static void css(enum ask a, uint32_t answer, size_t bytes, const char *note)
 
 static void huc(enum ask a, uint32_t answer, const char *note)
 {
-	static const char *const called[4] = { "guc_huc_answer", "guc_huc_part", "guc_huc_copy", "guc_huc_version" };
+	static const char *const called[4] = { "guc_huc_answer", "guc_huc_part",
+					       "guc_huc_copy", "guc_huc_version" };
 	uint32_t code;
 
 	lay_directory();
@@ -169,7 +173,8 @@ static void huc(enum ask a, uint32_t answer, const char *note)
 }
 
 /* A part sought by name: of 8 bytes, of all 12, or cut short. */
-static void cpd(int copy, uint32_t answer, const char *sought, size_t bytes, size_t blob_len, const char *note)
+static void cpd(int copy, uint32_t answer, const char *sought, size_t bytes, size_t blob_len,
+		const char *note)
 {
 	uint32_t code;
 	size_t room = answer == GUC_NO_ROOM ? 43 : 44;

@@ -99,8 +99,8 @@ static uint32_t may_receive(const uint32_t *w, uint32_t *desc, const uint32_t *b
 }
 
 /* Lays from HEAD on; the header's L and the header laid are two reads. */
-struct guc_received guc_receive(uint32_t w[260], uint32_t *desc, size_t desc_len, const uint32_t *buf,
-				size_t n, uint32_t *out, size_t out_len)
+struct guc_received guc_receive(uint32_t w[260], uint32_t *desc, size_t desc_len,
+				const uint32_t *buf, size_t n, uint32_t *out, size_t out_len)
 {
 	struct guc_received r = { may_receive(w, desc, buf), 0 };
 	uint32_t k, head, len;
@@ -122,7 +122,8 @@ struct guc_received guc_receive(uint32_t w[260], uint32_t *desc, size_t desc_len
 	return r;
 }
 
-uint32_t guc_receive_look(uint32_t w[260], uint32_t *desc, size_t desc_len, const uint32_t *buf, size_t n)
+uint32_t guc_receive_look(uint32_t w[260], uint32_t *desc, size_t desc_len, const uint32_t *buf,
+			  size_t n)
 {
 	uint32_t code = may_receive(w, desc, buf);
 
@@ -142,7 +143,8 @@ struct guc_part guc_css_part(const uint8_t *blob, size_t len, uint32_t which)
 {
 	struct guc_part p = { guc_css_answer(blob, len).code, 0, 0 };
 	size_t ucode = 128, rsa = ucode + 4 * (dword(blob + 24) - (size_t)dword(blob + 4));
-	size_t modulus = rsa + 4 * (size_t)dword(blob + 28), exponent = modulus + 4 * (size_t)dword(blob + 32);
+	size_t modulus = rsa + 4 * (size_t)dword(blob + 28);
+	size_t exponent = modulus + 4 * (size_t)dword(blob + 32);
 	const size_t start[5] = { ucode, rsa, modulus, exponent, exponent + 4 };
 
 	if (p.code || (which > 1 && 4 * (size_t)dword(blob + 24) > len))
@@ -152,7 +154,8 @@ struct guc_part guc_css_part(const uint8_t *blob, size_t len, uint32_t which)
 	return p;
 }
 
-struct guc_copied guc_css_copy(const uint8_t *blob, size_t len, uint32_t which, uint8_t *dst, size_t room)
+struct guc_copied guc_css_copy(const uint8_t *blob, size_t len, uint32_t which, uint8_t *dst,
+			       size_t room)
 {
 	struct guc_part p = guc_css_part(blob, len, which);
 	struct guc_copied c = { p.code ? p.code : p.len > room ? GUC_NO_ROOM : GUC_OK, p.len };
