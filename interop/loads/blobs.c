@@ -172,7 +172,7 @@ static void huc(enum ask a, uint32_t answer, const char *note)
 	end(code);
 }
 
-/* A part sought by name: of 8 bytes, of all 12, or cut short. */
+/* A part sought by name, which entry 1 has but for 20. */
 static void cpd(int copy, uint32_t answer, const char *sought, size_t bytes, size_t blob_len,
 		const char *note)
 {
@@ -182,8 +182,10 @@ static void cpd(int copy, uint32_t answer, const char *sought, size_t bytes, siz
 	lay_directory();
 	len = blob_len;
 	memcpy(name, sought, bytes);
-	if (bytes == 12)
-		memcpy(blob + ENTRY(1), sought, 12);
+	if (answer != GUC_NO_ENTRY) {
+		memset(blob + ENTRY(1), 0, 12);
+		memcpy(blob + ENTRY(1), sought, bytes);
+	}
 	if (answer == GUC_CPD_HEADER)
 		blob[3] = 'X';
 	if (answer == GUC_CPD_BEYOND)
@@ -224,8 +226,10 @@ static void manifest(uint32_t answer)
 
 static void cpd_both(int copy)
 {
-	cpd(copy, GUC_OK, "HUCP.man", 8, DIRECTORY, "8 bytes");
-	cpd(copy, GUC_OK, "HUCP.manHUCP", 12, DIRECTORY, "12 bytes");
+	size_t k;
+
+	for (k = 1; k <= 12; k++)
+		cpd(copy, GUC_OK, "HUCP.manHUCP", k, DIRECTORY, "of 1 to 12 bytes");
 	cpd(copy, GUC_BAD_FIELD, "HUCP\0man", 8, DIRECTORY, "zero");
 	cpd(copy, GUC_SHORT_BLOB, "HUCP.man", 8, 19, "");
 	cpd(copy, GUC_CPD_HEADER, "HUCP.man", 8, DIRECTORY, "");

@@ -61,6 +61,12 @@ void lent_ring(uint32_t own, uint32_t len)
 	lent_run("ring.else", own + len, N - len);
 }
 
+void lent_ring_next(uint32_t next)
+{
+	lent_run("ring.next", next, 1);
+	lent_run("ring.else", next + 1, N - 1);
+}
+
 void lent_message(void)
 {
 	lent("header", msg, 4);

@@ -20,6 +20,7 @@ void lay(uint32_t own, uint32_t len, int pending);
 void lent_state(const uint32_t *w);
 void lent_desc(void);
 void lent_ring(uint32_t own, uint32_t len);
+void lent_ring_next(uint32_t next); /* or the dword that a copy is to take */
 void lent_message(void);
 
 #endif /* CHANNEL_H */

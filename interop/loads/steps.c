@@ -49,7 +49,7 @@ static void receive_copy(uint32_t answer, uint32_t copied, const char *note)
 	calling("guc_receive_copy", answer, note);
 	lent_state(receiver);
 	lent_desc();
-	lent_ring(N - 2, 5);
+	lent_ring_next(N - 2 + copied);
 	begin();
 	code = guc_receive_copy(receiver, desc, desc_len, ring, n);
 	end(code);

@@ -59,6 +59,15 @@ static void receive(const struct fault *f, uint32_t own, uint32_t len, int look)
 
 static const struct fault good = { GUC_OK, "", 0, 0, 0, 0 };
 
+/* Own offset and L of the accepted calls: straight, and around the end. */
+static const uint32_t places[][2] = {
+	{ 100, 2 }, { 100, 3 }, { 100, 4 }, { 100, 5 }, { 100, 17 }, { 100, 40 }, { 100, 256 },
+	{ N - 1, 2 }, { N - 1, 3 }, { N - 1, 40 }, { N - 1, 256 }, { N - 2, 2 }, { N - 2, 3 },
+	{ N - 2, 17 }, { N - 3, 17 }, { N - 100, 256 }, { N - 254, 256 }, { 0, 256 },
+};
+
+#define PLACES (sizeof(places) / sizeof(places[0]))
+
 void send_calls(int look)
 {
 	const struct fault refused[] = {
@@ -77,11 +86,8 @@ void send_calls(int look)
 	};
 	size_t k;
 
-	send(&good, 100, 2, look);
-	send(&good, 100, 5, look);
-	send(&good, 100, 40, look);
-	send(&good, N - 1, 5, look);
-	send(&good, N - 3, 17, look);
+	for (k = 0; k < PLACES; k++)
+		send(&good, places[k][0], places[k][1], look);
 	for (k = 0; k < sizeof(refused) / sizeof(refused[0]); k++)
 		send(&refused[k], 100, 5, look);
 }
@@ -105,11 +111,8 @@ void receive_calls(int look)
 	};
 	size_t k, count = sizeof(refused) / sizeof(refused[0]);
 
-	receive(&good, 100, 2, look);
-	receive(&good, 100, 5, look);
-	receive(&good, 100, 40, look);
-	receive(&good, N - 1, 5, look);
-	receive(&good, N - 3, 17, look);
+	for (k = 0; k < PLACES; k++)
+		receive(&good, places[k][0], places[k][1], look);
 	for (k = 0; k < count - (look ? 3 : 0); k++)
 		receive(&refused[k], 100, 5, look);
 }
