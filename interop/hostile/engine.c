@@ -39,6 +39,7 @@ static unsigned long all_calls, all_bad, attack_calls;
 static int idle_scenes;
 static atomic_int stop;
 static _Alignas(64) atomic_ulong rounds;
+static cpu_set_t allowed; /* processors that this program may use */
 
 uint64_t next_random(uint64_t *x)
 {
@@ -152,11 +153,46 @@ static void *writer(void *seed)
 	return NULL;
 }
 
+/* Where there are two processors: the calls on the first, the writer on the next. */
+static void place(pthread_t thread, int which)
+{
+	cpu_set_t one;
+	int cpu, seen = 0;
+
+	for (cpu = 0; cpu < CPU_SETSIZE; cpu++)
+		if (CPU_ISSET(cpu, &allowed) && seen++ == which) {
+			CPU_ZERO(&one);
+			CPU_SET(cpu, &one);
+			pthread_setaffinity_np(thread, sizeof(one), &one);
+		}
+}
+
+/* Calls of one variant beside the writer: quota of them, or until the time is
+ * up; and some more, for at most two seconds, where no rewrite has hit one. */
+static void beside(const struct scene *s, struct tally *t, unsigned v, unsigned long quota,
+		   double seconds)
+{
+	double until = now() + seconds;
+	unsigned long k, before, hits = t->raced + RACED / s->variants + 1;
+
+	for (k = 0;; k++) {
+		if (k % 64 == 0) {
+			double at = now();
+
+			if ((k >= quota || at >= until) && (t->raced >= hits || at >= until + 2))
+				return;
+		}
+		s->reset();
+		before = atomic_load_explicit(&rounds, memory_order_relaxed);
+		s->call();
+		count(s, t, before != atomic_load_explicit(&rounds, memory_order_relaxed), v);
+	}
+}
+
 static void by_thread(const struct scene *s, struct tally *t, uint64_t seed)
 {
 	int attack = s->named && attack_calls;
-	unsigned long k, quota = (attack ? attack_calls : CALLS) / s->variants + 1;
-	double slice = (attack ? LONG_SECONDS : SECONDS) / s->variants, until;
+	unsigned long quota = (attack ? attack_calls : CALLS) / s->variants + 1;
 	pthread_t thread;
 	unsigned v;
 
@@ -167,17 +203,10 @@ static void by_thread(const struct scene *s, struct tally *t, uint64_t seed)
 		atomic_store(&rounds, 0);
 		if (pthread_create(&thread, NULL, writer, &seed))
 			exit(2);
+		place(thread, 1);
 		while (!atomic_load(&rounds))
 			sched_yield();
-		until = now() + slice;
-		for (k = 0; k < quota && (k % 64 || now() < until); k++) {
-			unsigned long before;
-
-			s->reset();
-			before = atomic_load_explicit(&rounds, memory_order_relaxed);
-			s->call();
-			count(s, t, before != atomic_load_explicit(&rounds, memory_order_relaxed), v);
-		}
+		beside(s, t, v, quota, (attack ? LONG_SECONDS : SECONDS) / s->variants);
 		atomic_store(&stop, 1);
 		pthread_join(thread, NULL);
 	}
@@ -243,6 +272,8 @@ int main(int argc, char **argv)
 
 	attack_calls = argc > 2 ? strtoul(argv[2], NULL, 10) : 0;
 	touches_catch();
+	sched_getaffinity(0, sizeof(allowed), &allowed);
+	place(pthread_self(), 0);
 	printf("hostile writers: lent words change while calls run\n");
 	printf("%-27s %-6s %8s %8s %8s %7s %5s %4s\n", "call, what is rewritten", "by", "calls",
 	       "raced", "taken", "bad", "s", "seed");
