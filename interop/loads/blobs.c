@@ -1,0 +1,270 @@
+/*
+ * The firmware calls, accepted and refused by each number.
+ */
+#include "loads.h"
+
+#include <string.h>
+
+#define IMAGE 180u              /* h 37, s 45: 32 bytes of uCode, 8, 8 and 4 */
+#define AT 140u                 /* of the image in the directory */
+#define DIRECTORY (AT + IMAGE)  /* three entries: other, HUCP.man, huc_fw */
+#define MANIFEST 96u
+#define ENTRY(index) (20 + 24 * (index))
+
+static uint8_t blob[DIRECTORY], name[12], dst[64];
+static size_t len;
+static uint32_t which;
+
+static const char *const components[4] = { "ucode", "rsa", "modulus", "exponent" };
+
+static void put(size_t at, uint32_t value)
+{
+	memcpy(blob + at, &value, 4);
+}
+
+static void lay_image(size_t at)
+{
+	put(at + 4, 37);
+	put(at + 24, 45);
+	put(at + 28, 2);
+	put(at + 32, 2);
+	put(at + 36, 1);
+	put(at + 64, 0x00460703u);
+}
+
+static void lay_entry(unsigned index, const char *called, uint32_t offset, uint32_t bytes)
+{
+	memcpy(blob + ENTRY(index), called, strlen(called));
+	put(ENTRY(index) + 12, offset);
+	put(ENTRY(index) + 16, bytes);
+}
+
+static void lay_directory(void)
+{
+	memset(blob, 0, sizeof(blob));
+	memset(name, 0, sizeof(name));
+	memcpy(blob, "$CPD", 4);
+	put(4, 3);
+	blob[10] = 20;
+	lay_entry(0, "HUCP.mat", 100, 8);
+	lay_entry(1, "HUCP.man", MANIFEST, 44);
+	lay_entry(2, "huc_fw", AT, IMAGE);
+	lay_image(AT);
+	len = DIRECTORY;
+}
+
+/* A CSS image of bytes at at: fields, the component asked for, everything else. */
+static void lent_image(size_t at, size_t bytes)
+{
+	static const size_t start[5] = { 128, 160, 168, 176, 180 };
+	static const char *const field[7] = { "h", "s", "k", "m", "e", "version", 0 };
+	static const size_t place[7] = { 4, 24, 28, 32, 36, 64, 128 };
+	size_t k, from = 0;
+
+	if (bytes < 128) {
+		lent("image.else", blob + at, bytes);
+		return;
+	}
+	for (k = 0; k < 7; k++) {
+		lent("image.else", blob + at + from, place[k] - from);
+		from = place[k] + 4;
+		if (field[k])
+			lent(field[k], blob + at + place[k], 4);
+	}
+	for (k = 0; k < 4 && start[k + 1] <= bytes; k++)
+		lent(which == k ? "asked" : components[k], blob + at + start[k],
+		     start[k + 1] - start[k]);
+}
+
+/* The directory's header and entries; found is the index of the one sought, 3 if none. */
+static void lent_directory(unsigned found)
+{
+	unsigned k;
+
+	if (len < 20) {
+		lent("directory.else", blob, len);
+		return;
+	}
+	lent("marker", blob, 4);
+	lent("count", blob + 4, 4);
+	lent("directory.else", blob + 8, 2);
+	lent("H", blob + 10, 1);
+	lent("directory.else", blob + 11, 9);
+	if (len < ENTRY(3))
+		lent("directory.else", blob + 20, len - 20);
+	for (k = 0; k < 3 && len >= ENTRY(3); k++) {
+		lent(k == found ? "found.name" : k < found ? "passed.name" : "later.name",
+		     blob + ENTRY(k), 12);
+		lent(k == found ? "found.offset" : "other.offset", blob + ENTRY(k) + 12, 4);
+		lent(k == found ? "found.length" : "other.length", blob + ENTRY(k) + 16, 4);
+		lent("directory.else", blob + ENTRY(k) + 20, 4);
+	}
+}
+
+/* What is asked of a blob; every call below is one of these. */
+enum ask { ANSWER, PART, COPY, VERSION };
+
+static uint32_t ask_css(enum ask a, size_t room)
+{
+	switch (a) {
+	case ANSWER:
+		return guc_css_answer(blob, len).code;
+	case PART:
+		return guc_css_part(blob, len, which).code;
+	case COPY:
+		return guc_css_copy(blob, len, which, dst, room).code;
+	default:
+		return guc_css_version(blob, len).code;
+	}
+}
+
+static uint32_t ask_huc(enum ask a, size_t room)
+{
+	switch (a) {
+	case ANSWER:
+		return guc_huc_answer(blob, len).code;
+	case PART:
+		return guc_huc_part(blob, len, which).code;
+	case COPY:
+		return guc_huc_copy(blob, len, which, dst, room).code;
+	default:
+		return guc_huc_version(blob, len).code;
+	}
+}
+
+static void css(enum ask a, uint32_t answer, size_t bytes, const char *note)
+{
+	static const char *const called[4] = { "guc_css_answer", "guc_css_part",
+					       "guc_css_copy", "guc_css_version" };
+	uint32_t code;
+
+	memset(blob, 0, sizeof(blob));
+	lay_image(0);
+	if (answer == GUC_CSS_SIZES)
+		put(4, 38);
+	len = bytes;
+	calling(called[a], answer, note);
+	lent_image(0, len);
+	lent("dst", dst, sizeof(dst));
+	begin();
+	code = ask_css(a, answer == GUC_NO_ROOM ? 3 : sizeof(dst));
+	end(code);
+}
+
+static void huc(enum ask a, uint32_t answer, const char *note)
+{
+	static const char *const called[4] = { "guc_huc_answer", "guc_huc_part",
+					       "guc_huc_copy", "guc_huc_version" };
+	uint32_t code;
+
+	lay_directory();
+	if (answer == GUC_CSS_SIZES)
+		put(AT + 4, 38);
+	if (answer == GUC_CPD_BEYOND)
+		len--;
+	calling(called[a], answer, note);
+	lent_directory(2);
+	lent("other.part", blob + ENTRY(3), AT - ENTRY(3));
+	lent_image(AT, len - AT);
+	lent("dst", dst, sizeof(dst));
+	begin();
+	code = ask_huc(a, answer == GUC_NO_ROOM ? 3 : sizeof(dst));
+	end(code);
+}
+
+/* A part sought by name, which entry 1 has but for 20. */
+static void cpd(int copy, uint32_t answer, const char *sought, size_t bytes, size_t blob_len,
+		const char *note)
+{
+	uint32_t code;
+	size_t room = answer == GUC_NO_ROOM ? 43 : 44;
+
+	lay_directory();
+	len = blob_len;
+	memcpy(name, sought, bytes);
+	if (answer != GUC_NO_ENTRY) {
+		memset(blob + ENTRY(1), 0, 12);
+		memcpy(blob + ENTRY(1), sought, bytes);
+	}
+	if (answer == GUC_CPD_HEADER)
+		blob[3] = 'X';
+	if (answer == GUC_CPD_BEYOND)
+		put(ENTRY(1) + 16, DIRECTORY);
+	calling(copy ? "guc_cpd_copy" : "guc_cpd_part", answer, note);
+	lent("sought", name, bytes);
+	lent_directory(answer == GUC_NO_ENTRY ? 3 : 1);
+	if (len > ENTRY(3)) {
+		lent("other.part", blob + ENTRY(3), MANIFEST - ENTRY(3));
+		lent("asked", blob + MANIFEST, 44);
+		lent("other.part", blob + AT, IMAGE);
+	}
+	lent("dst", dst, sizeof(dst));
+	begin();
+	if (copy)
+		code = guc_cpd_copy(blob, len, name, bytes, dst, room).code;
+	else
+		code = guc_cpd_part(blob, len, name, bytes).code;
+	end(code);
+}
+
+static void manifest(uint32_t answer)
+{
+	uint32_t code;
+
+	lay_directory();
+	if (answer == GUC_SHORT_BLOB)
+		put(ENTRY(1) + 16, 43);
+	calling("guc_manifest_version", answer, "");
+	lent_directory(1);
+	lent("other.part", blob + ENTRY(3), MANIFEST + 36 - ENTRY(3));
+	lent("numbers", blob + MANIFEST + 36, 8);
+	lent("other.part", blob + AT, IMAGE);
+	begin();
+	code = guc_manifest_version(blob, len).code;
+	end(code);
+}
+
+static void cpd_both(int copy)
+{
+	size_t k;
+
+	for (k = 1; k <= 12; k++)
+		cpd(copy, GUC_OK, "HUCP.manHUCP", k, DIRECTORY, "of 1 to 12 bytes");
+	cpd(copy, GUC_BAD_FIELD, "HUCP\0man", 8, DIRECTORY, "zero");
+	cpd(copy, GUC_SHORT_BLOB, "HUCP.man", 8, 19, "");
+	cpd(copy, GUC_CPD_HEADER, "HUCP.man", 8, DIRECTORY, "");
+	cpd(copy, GUC_CPD_ENTRIES, "HUCP.man", 8, ENTRY(3) - 1, "");
+	cpd(copy, GUC_NO_ENTRY, "HUCP.ma", 7, DIRECTORY, "prefix");
+	cpd(copy, GUC_CPD_BEYOND, "HUCP.man", 8, DIRECTORY, "");
+}
+
+void blob_calls(void)
+{
+	int a;
+
+	for (a = ANSWER; a <= VERSION; a++) {
+		for (which = 0; which < (a == PART || a == COPY ? 4 : 1); which++) {
+			css(a, GUC_OK, IMAGE, components[which]);
+			css(a, GUC_OK, IMAGE - 1, "truncated");
+			huc(a, GUC_OK, components[which]);
+		}
+		which = 1;
+		css(a, GUC_SHORT_BLOB, 127, "");
+		css(a, GUC_CSS_SIZES, IMAGE, "");
+		css(a, GUC_CSS_BEYOND, 167, "");
+		huc(a, GUC_CSS_SIZES, "");
+		huc(a, GUC_CPD_BEYOND, "");
+	}
+	which = 0;
+	css(COPY, GUC_NO_ROOM, IMAGE, "");
+	huc(COPY, GUC_NO_ROOM, "");
+	for (which = 9, a = PART; a <= COPY; a++) {
+		css(a, GUC_NO_SUCH, IMAGE, "");
+		huc(a, GUC_NO_SUCH, "");
+	}
+	cpd_both(0);
+	cpd_both(1);
+	cpd(1, GUC_NO_ROOM, "HUCP.man", 8, DIRECTORY, "");
+	manifest(GUC_OK);
+	manifest(GUC_SHORT_BLOB);
+}
