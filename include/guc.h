@@ -21,8 +21,7 @@
  * - A stack aligned to 16 bytes as that convention asks. The code may use the
  *   128 bytes below the stack pointer (the red zone). Where an interrupt can
  *   push onto the same stack, as in a kernel built with -mno-red-zone, call it
- *   only while nothing can interrupt on that stack, or link an archive built
- *   without a red zone.
+ *   only while nothing can interrupt on that stack.
  * - No indirect branch tracking for this code: it has jump tables, and no
  *   endbr64 behind them.
  * - Saved SSE2 state: the code uses SSE2 registers. In Linux that means
@@ -59,14 +58,28 @@
  * of the new HEAD; guc_receive has no place for it, so there tell the sender of
  * the room only after a fence that follows the call.
  *
- * Each call is proved for memory that stands still while the call runs. To
- * have that beside a live device, lend a copy of the descriptor: read HEAD,
- * TAIL and STATUS once each into 16 dwords of your own, lend those, and write
- * the one changed word back (STATUS after 7, 8, 9; TAIL or HEAD after a
- * publish). That also gives the whole calls a place for the barrier: before the
- * word is written back. The steps keep the message itself safe: a send's look
- * takes its own copy of what it judges, and a receive's publish judges its own
- * copy and not the ring.
+ * To have a place for the barrier in whole calls too, lend a copy of the
+ * descriptor: read HEAD, TAIL and STATUS once each into 16 dwords of your own,
+ * lend those, and write the one changed word back (STATUS after 7, 8, 9; TAIL or
+ * HEAD after a publish) behind the barrier.
+ *
+ * WHICH LENT MEMORY MUST STAND STILL
+ *
+ * The proofs are of memory that nobody else writes while a call runs. These
+ * must have it so: a side's state, and what a call writes (out, dst, the dwords
+ * that a send stores).
+ *
+ * Other lent memory (the message, name and blob; HEAD, TAIL and STATUS; the ring
+ * that a receive reads) is better kept still too. Where somebody writes it
+ * meanwhile, this holds, and is tested on the archive and not proved: each word
+ * that a call judges is read once, and what was judged is what is stored, handed
+ * out or answered. So nothing outside the slices is touched, whatever is written;
+ * an accepted message is published with the two dwords that were judged; a part
+ * answered by 0 lies within the blob, its number, start and length from one
+ * judgement; a look answered 0 leaves a state that fits. What may happen: words
+ * of different moments are judged together, the dwords of a message behind its
+ * second are those of any moment of the call, and copied bytes are those that lie
+ * there when they are copied.
  */
 #ifndef GUC_H
 #define GUC_H
@@ -341,8 +354,10 @@ struct guc_unpacked guc_unpack(const uint32_t *msg, size_t len);
 /*
  * FIRMWARE
  *
- * A blob is judged afresh in each call. In none of these is it changed; the
- * copies change dst and only on 0: its first len bytes, never the rest.
+ * A blob is judged afresh in each call, and once. In none of these is it
+ * changed; the copies change dst and only on 0: its first len bytes, never the
+ * rest. A start and length hold for the bytes that were judged: where the blob may
+ * be written later, use the copies, and judge the copy by what reads it.
  * which is an enum guc_component, anything else is answered by 101.
  * No signature is checked.
  */

@@ -21,7 +21,9 @@
 #define SECONDS 0.6       /* a scene by thread */
 #define TOUCH_SECONDS 0.3 /* a scene by touch */
 #define LONG_SECONDS 900.0
-#define RACED 100         /* calls that the thread must have hit, at least */
+#define RACED 100         /* calls that the thread should have hit, at least */
+#define BY_TOUCH 1        /* calls that a rewrite by touch must have hit */
+#define TOUCHED 60        /* calls of a variant by touch, whatever the time */
 
 struct tally {
 	unsigned long calls, raced, taken, bad, showed[2];
@@ -223,7 +225,7 @@ static void by_touch(const struct scene *s, struct tally *t, uint64_t seed)
 		named = 0;
 		s->lay(v);
 		until = now() + slice;
-		for (k = 0; k < 2000 && (k < 20 || now() < until); k++) {
+		for (k = 0; k < 2000 && (k < TOUCHED || now() < until); k++) {
 			s->reset();
 			put_faces((unsigned)next_random(&x) & 255);
 			touches_begin(&x, k % 6);
@@ -233,7 +235,9 @@ static void by_touch(const struct scene *s, struct tally *t, uint64_t seed)
 	}
 }
 
-/* A scene whose race never showed proves nothing, and that is said. */
+/* A scene whose race never showed proves nothing, and that is said. By touch it
+ * is a mistake of the scene; by thread, of a machine that is busy or has one
+ * processor, which is no reason to fail. */
 static void tell(const struct scene *s, const char *by, const struct tally *t, uint64_t seed,
 		 unsigned long least)
 {
@@ -242,9 +246,9 @@ static void tell(const struct scene *s, const char *by, const struct tally *t, u
 	if (t->bad)
 		printf("    bad %s\n", t->first);
 	if (t->raced < least || !t->showed[0] || !t->showed[1]) {
-		printf("    nothing shown: raced %lu, outcomes %lu and %lu; two processors?\n",
-		       t->raced, t->showed[0], t->showed[1]);
-		idle_scenes++;
+		printf("    nothing shown: raced %lu, outcomes %lu and %lu\n", t->raced,
+		       t->showed[0], t->showed[1]);
+		idle_scenes += least == BY_TOUCH;
 	}
 	fflush(stdout);
 	all_calls += t->calls;
@@ -261,7 +265,7 @@ static void run(const struct scene *s, uint64_t *seed)
 		tell(s, "thread", &thread, *seed, RACED);
 		touch.began = now();
 		by_touch(s, &touch, *seed);
-		tell(s, "touch", &touch, *seed, 1);
+		tell(s, "touch", &touch, *seed, BY_TOUCH);
 	}
 }
 
@@ -283,7 +287,7 @@ int main(int argc, char **argv)
 	run(blob_scenes, &seed);
 	afresh = judged_afresh();
 	printf("same bytes rewritten between two calls: %lu not judged afresh\n", afresh);
-	printf("hostile writers: %lu calls, %lu bad, %d scenes without a race\n", all_calls,
+	printf("hostile writers: %lu calls, %lu bad, %d scenes by touch without a race\n", all_calls,
 	       all_bad + afresh, idle_scenes);
 	return all_bad + afresh || idle_scenes ? 1 : 0;
 }
