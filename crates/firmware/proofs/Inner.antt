@@ -7,7 +7,7 @@ use native.Mathlib.Omega.{arith}
 use lib.ListN.{length}
 use lib.Dec.{eqb}
 use borrow.Author.Tests.{eq-eqb, ne-eqb}
-use Rattle.firmware.specs.Bytes.{Span, span, nowhere, bytes, located}
+use Rattle.firmware.specs.Bytes.{Span, span, nowhere, bytes, placed}
 use Rattle.firmware.specs.Css
 use Rattle.firmware.specs.Cpd
 use Rattle.firmware.specs.Inside.{hucName, partNamed, hucBlob, hucNumber, hucTruncated, hucPlace, hucLocated, within}
@@ -17,7 +17,7 @@ use Rattle.firmware.specs.declared.css.Component.{Component}
 use Rattle.firmware.proofs.Lies.{cpd-lies, located-span, shown-beyond}
 
 -- a place in the image, told by the code from where it starts, is the one that is shown
-chosen : (at n : ℕ) (t s : Bool) (p : Span) → (s ≡ true → 128 ≤ p .from) → outer at (located n t (cond s p nowhere)) ≡ located n t (cond s (within at p) nowhere)
+chosen : (at n : ℕ) (t s : Bool) (p : Span) → (s ≡ true → 128 ≤ p .from) → outer at (placed n t (cond s p nowhere)) ≡ placed n t (cond s (within at p) nowhere)
 unfolding outer
 chosen at n t true p h =
     let l : 128 ≤ p .from = h refl in
@@ -26,7 +26,7 @@ chosen at n t true p h =
     simp (away, d)
 chosen at n t false p h = refl
 
-outer-located : (at : ℕ) (which : Component) (i : List ℕ) → outer at (Css.located which i) ≡ located (Css.number i) (Css.truncated i) (cond (Css.shown which i) (within at (Css.laid which (Css.sizes i))) nowhere)
+outer-located : (at : ℕ) (which : Component) (i : List ℕ) → outer at (Css.located which i) ≡ placed (Css.number i) (Css.truncated i) (cond (Css.shown which i) (within at (Css.laid which (Css.sizes i))) nowhere)
 unfolding Css.place
 outer-located at which i = chosen at (Css.number i) (Css.truncated i) (Css.shown which i) (Css.laid which (Css.sizes i)) (λ e. shown-beyond i which e .after)
 

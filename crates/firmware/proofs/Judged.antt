@@ -1,19 +1,18 @@
 -- The judgement of an image from the number of its bytes and its sizes alone. Assumes nothing.
 use Prim.Native.Nat.{ℕ, suc, _+_, _-_, _*_, _≤_, _<_}
 use mathlib.Core.Path.{_≡_, refl, sym, _∙_}
-use mathlib.Core.Bool.{Bool, true, false, not, cond}
+use mathlib.Core.Bool.{Bool, true, false, not, _&&_, cond}
 use mathlib.Core.List.{List}
 use native.Mathlib.Omega.{arith}
 use lib.ListN.{length}
 use lib.Dec.{eqb, leb, ltb}
 use borrow.Author.Tests.{eq-eqb, ne-eqb, lt-ltb, le-ltb, le-leb, leb-true, leb-false}
-use Rattle.firmware.specs.Bytes.{Span, span, nowhere, located}
+use Rattle.firmware.specs.Bytes.{Span, span, nowhere, placed}
 use Rattle.firmware.specs.Css
 use Rattle.firmware.specs.declared.bytes.Located.{Located}
 use Rattle.firmware.specs.declared.css.Sizes.{Sizes}
 use Rattle.firmware.specs.declared.css.Component.{Component}
 use Rattle.firmware.specs.declared.css.Component.the-variants.{Ucode, Rsa, Modulus, Exponent}
-use Rattle.firmware.proofs.Lies.{sizes-agree}
 
 -- a component of an image that is refused
 not-shown : (b : List ℕ) (which : Component) → Css.accepted b ≡ false → Css.place which b ≡ nowhere
@@ -23,13 +22,13 @@ not-shown b Rsa e = rw e
 not-shown b Modulus e = rw e
 not-shown b Exponent e = rw e
 
-refused : (b : List ℕ) (which : Component) (k : ℕ) → Css.number b ≡ suc k → Css.located which b ≡ located (suc k) false nowhere
+refused : (b : List ℕ) (which : Component) (k : ℕ) → Css.number b ≡ suc k → Css.located which b ≡ placed (suc k) false nowhere
 unfolding Css.truncated
 refused b which k e =
     let a : Css.accepted b ≡ false = ne-eqb (Css.number b) 0 (λ z. absurd (omega arith)) in
     rw (not-shown b which a, a, e)
 
-pub no-header : (b : List ℕ) (which : Component) → length b < 128 → Css.located which b ≡ located 15 false nowhere
+pub no-header : (b : List ℕ) (which : Component) → length b < 128 → Css.located which b ≡ placed 15 false nowhere
 unfolding Css.number
 no-header b which l = refused b which 14 (simp (lt-ltb (length b) 128 l))
 
@@ -50,16 +49,16 @@ exponent z = modulus z + 4 * z .m
 
 -- what the code hands out for a component that needs so many bytes
 abbrev handed : ℕ → Sizes → ℕ → Span → Located
-handed n z needed p = located 0 (ltb n (4 * z .s)) (cond (leb needed n) p nowhere)
+handed n z needed p = placed 0 (ltb n (4 * z .s)) (cond (leb needed n) p nowhere)
 
 -- a blob of n bytes whose header says the sizes z
 module _ (b : List ℕ) (n : ℕ) (z : Sizes) (l : length b ≡ n) (s : Css.sizes b ≡ z) (h : 128 ≤ n) where
-  pub sizes-disagree : (which : Component) → Css.agree z ≡ false → Css.located which b ≡ located 16 false nowhere
+  pub sizes-disagree : (which : Component) → Css.agree z ≡ false → Css.located which b ≡ placed 16 false nowhere
   unfolding Css.number
   sizes-disagree which a = refused b which 15 (simp (l, s, le-ltb n 128 h, a))
 
   module _ (a : Css.agree z ≡ true) where
-    pub too-short : (which : Component) → n < modulus z → Css.located which b ≡ located 17 false nowhere
+    pub too-short : (which : Component) → n < modulus z → Css.located which b ≡ placed 17 false nowhere
     unfolding Css.number
     too-short which g = refused b which 16 (simp (l, s, le-ltb n 128 h, a, lt-ltb n (modulus z) g))
 
@@ -68,28 +67,31 @@ module _ (b : List ℕ) (n : ℕ) (z : Sizes) (l : length b ≡ n) (s : Css.size
       unfolding Css.number
       number = simp (l, s, le-ltb n 128 h, a, le-ltb n (modulus z) g)
 
-      shown : (which : Component) (needed from to : ℕ) → Css.shown which b ≡ leb needed n → Css.laid which z ≡ span from to → Css.located which b ≡ handed n z needed (span from to)
+      shown : (which : Component) (needed : ℕ) (p : Span) → Css.shown which b ≡ leb needed n → Css.laid which z ≡ p → Css.located which b ≡ handed n z needed p
       unfolding Css.truncated Css.place
-      shown which needed from to q p = simp (number, q, l, s, p, fewer n (4 * z .s) (leb (4 * z .s) n) refl)
+      shown which needed p q e = simp (number, q, l, s, e, fewer n (4 * z .s) (leb (4 * z .s) n) refl)
 
-      front-shown : eqb (Css.number b) 0 ≡ leb (modulus z) n
-      front-shown = eq-eqb (Css.number b) 0 number ∙ sym (le-leb (modulus z) n g)
+      -- uCode and RSA are shown: whatever they need is there
+      front-shown : (needed : ℕ) → needed ≤ n → Css.accepted b ≡ leb needed n
+      front-shown needed f = eq-eqb (Css.number b) 0 number ∙ sym (le-leb needed n f)
 
-      pub ucode-handed : Css.located Ucode b ≡ handed n z (modulus z) (span 128 (rsa z))
-      unfolding Css.shown Css.laid
-      ucode-handed = shown Ucode (modulus z) 128 (rsa z) front-shown refl
+      -- modulus and exponent need all of the image
+      back-shown : (needed : ℕ) → needed ≡ 4 * z .s → (Css.accepted b && Css.whole b) ≡ leb needed n
+      back-shown needed f = simp (f, number, l, s)
 
-      pub rsa-handed : Css.located Rsa b ≡ handed n z (modulus z) (span (rsa z) (modulus z))
-      unfolding Css.shown Css.laid
-      rsa-handed = shown Rsa (modulus z) (rsa z) (modulus z) front-shown refl
+      module _ (needed from to : ℕ) where
+        pub ucode-handed : needed ≤ n → from ≡ 128 → to ≡ rsa z → Css.located Ucode b ≡ handed n z needed (span from to)
+        unfolding Css.shown Css.laid
+        ucode-handed f g h = shown Ucode needed (span from to) (front-shown needed f) (rw (g, h))
 
-      pub modulus-handed : Css.located Modulus b ≡ handed n z (4 * z .s) (span (modulus z) (exponent z))
-      unfolding Css.shown Css.laid
-      modulus-handed = shown Modulus (4 * z .s) (modulus z) (exponent z) (simp (number, l, s)) refl
+        pub rsa-handed : needed ≤ n → from ≡ rsa z → to ≡ modulus z → Css.located Rsa b ≡ handed n z needed (span from to)
+        unfolding Css.shown Css.laid
+        rsa-handed f g h = shown Rsa needed (span from to) (front-shown needed f) (rw (g, h))
 
-      pub exponent-handed : Css.located Exponent b ≡ handed n z (4 * z .s) (span (exponent z) (4 * z .s))
-      unfolding Css.shown Css.laid
-      exponent-handed =
-          let f = sizes-agree z a in
-          let e : exponent z + 4 * z .e ≡ 4 * z .s = omega arith in
-          shown Exponent (4 * z .s) (exponent z) (4 * z .s) (simp (number, l, s)) (rw e)
+        pub modulus-handed : needed ≡ 4 * z .s → from ≡ modulus z → to ≡ exponent z → Css.located Modulus b ≡ handed n z needed (span from to)
+        unfolding Css.shown Css.laid
+        modulus-handed f g h = shown Modulus needed (span from to) (back-shown needed f) (rw (g, h))
+
+        pub exponent-handed : needed ≡ 4 * z .s → from ≡ exponent z → to ≡ exponent z + 4 * z .e → Css.located Exponent b ≡ handed n z needed (span from to)
+        unfolding Css.shown Css.laid
+        exponent-handed f g h = shown Exponent needed (span from to) (back-shown needed f) (rw (g, h))

@@ -38,12 +38,24 @@ module _ (b key : List ℕ) (at : ℕ) where
   front-differs = by-test (Cpd.agrees b key at) refl
 
 -- bytes of equal dwords agree
-four : (a b c d w x y z : ℕ) → a < 256 → b < 256 → c < 256 → d < 256 → w < 256 → x < 256 → y < 256 → z < 256 → a + 0x100 * b + 0x10000 * c + 0x1000000 * d ≡ w + 0x100 * x + 0x10000 * y + 0x1000000 * z → (a ≡ w) × (b ≡ x) × (c ≡ y) × (d ≡ z)
-four a b c d w x y z ha hb hc hd hw hx hy hz e = (omega arith, omega arith, omega arith, omega arith)
+abbrev number : ℕ → ℕ → ℕ → ℕ → ℕ
+number a b c d = a + 0x100 * b + 0x10000 * c + 0x1000000 * d
 
-pub front-agrees : (b key : List ℕ) (at : ℕ) → ((j : ℕ) → getD b j 0 < 256) → ((j : ℕ) → getD key j 0 < 256) → dwordAt b at ≡ dwordAt key 0 → Cpd.all (λ j. eqb (getD b (at + j) 0) (getD key j 0)) 4 ≡ true
-unfolding dwordAt Cpd.all
-front-agrees b key at hb hk e =
-    let z : at + 0 ≡ at = omega arith in
-    let f = four _ _ _ _ _ _ _ _ (hb at) (hb (at + 1)) (hb (at + 2)) (hb (at + 3)) (hk 0) (hk 1) (hk 2) (hk 3) e in
-    simp (z, eq-eqb (getD b at 0) (getD key 0 0) (f .0), eq-eqb (getD b (at + 1) 0) (getD key 1 0) (f .1), eq-eqb (getD b (at + 2) 0) (getD key 2 0) (f .2), eq-eqb (getD b (at + 3) 0) (getD key 3 0) (f .3))
+module _ (a b c d w x y z : ℕ) (ha : a < 256) (hb : b < 256) (hc : c < 256) (hd : d < 256) where
+  module _ (hw : w < 256) (hx : x < 256) (hy : y < 256) (hz : z < 256) (e : number a b c d ≡ number w x y z) where
+    four : (a ≡ w) × (b ≡ x) × (c ≡ y) × (d ≡ z)
+    four = (omega arith, omega arith, omega arith, omega arith)
+
+module _ (b key : List ℕ) (at : ℕ) (hb : (j : ℕ) → getD b j 0 < 256) (hk : (j : ℕ) → getD key j 0 < 256) where
+  pub front-agrees : dwordAt b at ≡ dwordAt key 0 → Cpd.all (λ j. eqb (getD b (at + j) 0) (getD key j 0)) 4 ≡ true
+  unfolding dwordAt Cpd.all
+  front-agrees e =
+      let z : at + 0 ≡ at = omega arith in
+      let f = four _ _ _ _ _ _ _ _ (hb at) (hb (at + 1)) (hb (at + 2)) (hb (at + 3)) (hk 0) (hk 1) (hk 2) (hk 3) e in
+      simp (
+        z,
+        eq-eqb (getD b at 0) (getD key 0 0) (f .0),
+        eq-eqb (getD b (at + 1) 0) (getD key 1 0) (f .1),
+        eq-eqb (getD b (at + 2) 0) (getD key 2 0) (f .2),
+        eq-eqb (getD b (at + 3) 0) (getD key 3 0) (f .3),
+      )

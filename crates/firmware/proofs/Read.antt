@@ -7,7 +7,7 @@ use native.Mathlib.Omega.{arith}
 use lib.ListN.{length}
 use lib.Dec.{eqb, ltb}
 use borrow.Author.Tests.{eq-eqb, ne-eqb, lt-ltb, le-ltb, le-leb, lt-leb}
-use Rattle.firmware.specs.Bytes.{span, nowhere, located}
+use Rattle.firmware.specs.Bytes.{span, nowhere, placed}
 use Rattle.firmware.specs.Cpd
 use Rattle.firmware.specs.Private.{Keyed, tableOf, walked}
 use Rattle.firmware.specs.declared.cpd.Table.{Table}
@@ -28,11 +28,11 @@ module _ (b : List ℕ) {t : Table} (e : t ≡ tableOf b) where
   table-count z = let d : eqb (Cpd.directoryNumber b) 0 ≡ true = eq-eqb (Cpd.directoryNumber b) 0 (table-code ∙ z) in rw (e, d)
 
 -- an entry of a directory that is refused
-entry-refused : (b : List ℕ) (i : ℕ) → eqb (Cpd.directoryNumber b) 0 ≡ false → Cpd.entryLocated b i ≡ located (Cpd.directoryNumber b) false nowhere
+entry-refused : (b : List ℕ) (i : ℕ) → eqb (Cpd.directoryNumber b) 0 ≡ false → Cpd.entryLocated b i ≡ placed (Cpd.directoryNumber b) false nowhere
 unfolding Cpd.entryNumber Cpd.entryPlace
 entry-refused b i e = simp e
 
-pub entry-own : (b : List ℕ) {t : Table} (e : t ≡ tableOf b) (i : ℕ) → (t .code ≡ 0 → ⊥) → Cpd.entryLocated b i ≡ located (t .code) false nowhere
+pub entry-own : (b : List ℕ) {t : Table} (e : t ≡ tableOf b) (i : ℕ) → (t .code ≡ 0 → ⊥) → Cpd.entryLocated b i ≡ placed (t .code) false nowhere
 entry-own b e i z =
     let d = table-code b e in
     entry-refused b i (ne-eqb (Cpd.directoryNumber b) 0 (λ q. z (sym d ∙ q))) ∙ rw d
@@ -42,12 +42,12 @@ module _ (b : List ℕ) {t : Table} (e : t ≡ tableOf b) (z : t .code ≡ 0) (i
   own : eqb (Cpd.directoryNumber b) 0 ≡ true
   own = eq-eqb (Cpd.directoryNumber b) 0 (table-code b e ∙ z)
 
-  pub entry-none : t .count ≤ i → Cpd.entryLocated b i ≡ located 20 false nowhere
+  pub entry-none : t .count ≤ i → Cpd.entryLocated b i ≡ placed 20 false nowhere
   unfolding Cpd.entryNumber Cpd.entryPlace
   entry-none l = simp (own, table-count b e z, le-leb (t .count) i l)
 
   module _ (l : i < t .count) (start len : ℕ) (o : start ≡ Cpd.offset b (t .start + 24 * i)) (s : len ≡ Cpd.size b (t .start + 24 * i)) where
-    pub entry-beyond : length b < start + len → Cpd.entryLocated b i ≡ located 21 false nowhere
+    pub entry-beyond : length b < start + len → Cpd.entryLocated b i ≡ placed 21 false nowhere
     unfolding Cpd.entryNumber Cpd.entryPlace
     entry-beyond g = simp (own, table-count b e z, table-start b e z, lt-leb (t .count) i l, ← o, ← s, lt-ltb (length b) (start + len) g)
 

@@ -4,8 +4,7 @@ use mathlib.Core.Bool.{Bool, true, false, not, _&&_, cond}
 use mathlib.Core.List.{List}
 use lib.ListN.{length, getD}
 use lib.Dec.{eqb, leb, ltb}
-use Rattle.firmware.specs.Bytes.{Span, dwordAt, span, nowhere, then}
-use Rattle.firmware.specs.Bytes as bytes
+use Rattle.firmware.specs.Bytes.{Span, dwordAt, span, nowhere, placed, then}
 use Rattle.firmware.specs.declared.bytes.Located.{Located}
 use Rattle.firmware.specs.declared.cpd.Directory.{Directory}
 
@@ -76,7 +75,7 @@ entryPlace b i = cond (eqb (entryNumber b i) 0) (entryPart b (entryStart b i)) n
 
 -- the whole judgement of entry i
 abbrev pub entryLocated : List ℕ → ℕ → Located
-entryLocated b i = bytes.located (entryNumber b i) false (entryPlace b i)
+entryLocated b i = placed (entryNumber b i) false (entryPlace b i)
 
 -- 14 'name to seek not 1 to 12 bytes without a zero', then those of the first entry of that name: 20 is 'no entry of that name'
 unfoldable pub number : List ℕ → List ℕ → ℕ
@@ -88,7 +87,7 @@ place b name = cond (not (isName name)) nowhere (entryPlace b (firstEntry b name
 
 -- the whole judgement of a name sought
 abbrev pub located : List ℕ → List ℕ → Located
-located b name = bytes.located (number b name) false (place b name)
+located b name = placed (number b name) false (place b name)
 
 -- what a directory has, whatever is sought: its number and, where that is 0, how many entries
 unfoldable pub entriesOf : List ℕ → Directory

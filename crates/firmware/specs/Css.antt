@@ -4,8 +4,7 @@ use mathlib.Core.Bool.{Bool, not, _&&_, cond}
 use mathlib.Core.List.{List}
 use lib.ListN.{length}
 use lib.Dec.{eqb, leb, ltb}
-use Rattle.firmware.specs.Bytes.{Span, dwordAt, span, nowhere}
-use Rattle.firmware.specs.Bytes as bytes
+use Rattle.firmware.specs.Bytes.{Span, dwordAt, span, nowhere, placed}
 use Rattle.firmware.specs.declared.bytes.Located.{Located}
 use Rattle.firmware.specs.declared.css.Sizes.{Sizes}
 use Rattle.firmware.specs.declared.css.Answer.{Answer}
@@ -67,7 +66,7 @@ place which b = cond (shown which b) (laid which (sizes b)) nowhere
 
 -- the whole judgement of an image of which that component is asked
 abbrev pub located : Component → List ℕ → Located
-located which b = bytes.located (number b) (truncated b) (place which b)
+located which b = placed (number b) (truncated b) (place which b)
 
 -- the answer alone
 abbrev pub answer : List ℕ → Answer

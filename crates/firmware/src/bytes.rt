@@ -3,7 +3,7 @@ ghost use mathlib.Core.Path.{_≡_};
 ghost use mathlib.Core.Bool.{false};
 ghost use Prim.Native.Nat.{_+_, _≤_, _<_, _^_};
 ghost use lib.ListN.{length};
-ghost use Rattle.firmware.specs.Bytes.{wordAt, dwordAt, span, nowhere, located, PartOf};
+ghost use Rattle.firmware.specs.Bytes.{wordAt, dwordAt, span, nowhere, placed, PartOf};
 
 // Where a part lies in the lent blob, all of it from one judgement: 0 with the part's first byte and its length, or the number that
 // refuses it with the empty part at the blob's start. An image that is accepted without its modulus and exponent is truncated.
@@ -15,7 +15,7 @@ pub struct Located {
 }
 
 pub(crate) fn refused(code: u32) -> Located
-    ensures { λ r. ⌜ r ≡ located code false nowhere ⌝ }
+    ensures { λ r. ⌜ r ≡ placed code false nowhere ⌝ }
 {
     Located {
         code,

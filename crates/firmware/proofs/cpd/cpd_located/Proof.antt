@@ -20,11 +20,12 @@ walk-requires c κs = table-room _ (c .read-table .ensures)
 
 returns-2 : tie.Need-returns-2
 returns-2 c =
-    let at-key = c .before .before .before .before .before in
+    let at-table = c .before .before in
+    let at-key = at-table .before .before .before in
     let n = at-key .before .before .before .args .name .now in
     let k = at-key .key-of .ensures in
-    c .entry .ensures
-    ∙ name-found _ n _ k (c .before .before .read-table .ensures) (c .before .walk .ensures) (sym (c .before .before .before .before .is-name .ensures n refl k) ∙ not-false _ (c .before .before .before .if1 .left))
+    let named = sym (at-table .before .before .is-name .ensures n refl k) ∙ not-false _ (at-table .before .if1 .left) in
+    c .entry .ensures ∙ name-found _ n _ k (at-table .read-table .ensures) (c .before .walk .ensures) named
 
 pub cpd-located-spec : {M : Type 1} → statement M
 cpd-located-spec = tie.close (tie.spec (λ c κs. search needs) (λ c κs. search needs) (λ c κs. search needs) returns (λ c κs. search needs) walk-requires (λ c κs. search needs) returns-2)

@@ -35,12 +35,18 @@ dword-at-requires-2 c κs = let l = table-room _ (c .before .before .before .bef
 returns-3 : tie.Need-returns-3
 returns-3 c =
     let at-fields = c .before .before in
-    c .refused3 .ensures ∙ sym (entry-beyond _ (at-fields .before .before .before .before .before .before .before .pre) (at-fields .before .before .before .before .before .if1 .left) _ (at-fields .before .before .before .if2 .left) _ _ (ap (λ (x : ℕ). x % 2 ^ 25) (at-fields .before .dword-at .ensures .0)) (at-fields .dword-at2 .ensures .0) (c .before .if3 .taken))
+    let at-index = at-fields .before .before .before in
+    let offset = ap (λ (x : ℕ). x % 2 ^ 25) (at-fields .before .dword-at .ensures .0) in
+    let beyond = entry-beyond _ (at-index .before .before .before .before .pre) (at-index .before .before .if1 .left) _ (at-index .if2 .left) in
+    c .refused3 .ensures ∙ sym (beyond _ _ offset (at-fields .dword-at2 .ensures .0) (c .before .if3 .taken))
 
 returns-4 : tie.Need-returns-4
 returns-4 c =
     let at-fields = c .before in
-    sym (entry-there _ (at-fields .before .before .before .before .before .before .before .pre) (at-fields .before .before .before .before .before .if1 .left) _ (at-fields .before .before .before .if2 .left) _ _ (ap (λ (x : ℕ). x % 2 ^ 25) (at-fields .before .dword-at .ensures .0)) (at-fields .dword-at2 .ensures .0) (c .if3 .left))
+    let at-index = at-fields .before .before .before in
+    let offset = ap (λ (x : ℕ). x % 2 ^ 25) (at-fields .before .dword-at .ensures .0) in
+    let there = entry-there _ (at-index .before .before .before .before .pre) (at-index .before .before .if1 .left) _ (at-index .if2 .left) in
+    sym (there _ _ offset (at-fields .dword-at2 .ensures .0) (c .if3 .left))
 
 pub entry-spec : {M : Type 1} → statement M
 entry-spec = tie.close (tie.spec (λ c κs. search needs) returns (λ c κs. search needs) returns-2 mul-at add-at add-dword-at dword-at-requires add-dword-at-2 dword-at-requires-2 (λ c. search needs) (λ c κs. search needs) returns-3 returns-4)

@@ -11,7 +11,8 @@ use Rattle.firmware.proofs.css.judge.Tie as tie
 returns : tie.Need-returns
 returns c b l s =
     let at-agree = c .before .before in
-    c .refused .ensures ∙ sym (sizes-disagree b _ _ l s (at-agree .before .pre .0) _ (sym (at-agree .agree .ensures) ∙ not-true _ (c .before .if1 .taken)))
+    let a = sym (at-agree .agree .ensures) ∙ not-true _ (c .before .if1 .taken) in
+    c .refused .ensures ∙ sym (sizes-disagree b _ _ l s (at-agree .before .pre .0) _ a)
 
 sub-rsa : tie.Need-sub-rsa
 sub-rsa c =
@@ -22,7 +23,8 @@ sub-rsa c =
 returns-2 : tie.Need-returns-2
 returns-2 c b l s =
     let at-agree = c .before .before .before .before .before in
-    c .refused2 .ensures ∙ sym (too-short b _ _ l s (at-agree .before .pre .0) (sym (at-agree .agree .ensures) ∙ not-false _ (c .before .before .before .before .if1 .left)) _ (c .before .if2 .taken))
+    let a = sym (at-agree .agree .ensures) ∙ not-false _ (c .before .before .before .before .if1 .left) in
+    c .refused2 .ensures ∙ sym (too-short b _ _ l s (at-agree .before .pre .0) a _ (c .before .if2 .taken))
 
 shown-requires-4 : tie.Need-shown-requires-4
 shown-requires-4 c κs =
@@ -30,29 +32,39 @@ shown-requires-4 c κs =
     let a = sizes-agree (at-agree .before .args .z) (sym (at-agree .agree .ensures) ∙ not-false _ (c .before .before .before .before .before .before .before .if1 .left)) in
     omega arith
 
+-- each component: what it needs, where it starts and where it ends are facts about numbers
 returns-3 : tie.Need-returns-3
 returns-3 c b l s =
-    let at-agree = c .before .before .before .before .before .before .before .before .before in
-    rw (c .before .enum-told .given .1)
-    (c .shown .ensures ∙ sym (ucode-handed b _ _ l s (at-agree .before .pre .0) (sym (at-agree .agree .ensures) ∙ not-false _ (c .before .before .before .before .before .before .before .before .if1 .left)) (c .before .before .before .before .before .if2 .left)))
+    let at-there = c .before .before .before .before .before in
+    let at-agree = at-there .before .before .before .before in
+    let a = sym (at-agree .agree .ensures) ∙ not-false _ (at-there .before .before .before .if1 .left) in
+    let handed = ucode-handed b _ _ l s (at-agree .before .pre .0) a (at-there .if2 .left) in
+    rw (c .before .enum-told .given .1) (c .shown .ensures ∙ sym (handed _ _ _ (omega arith) (omega arith) (omega arith)))
 
 returns-4 : tie.Need-returns-4
 returns-4 c b l s =
-    let at-agree = c .before .before .before .before .before .before .before .before .before in
-    rw (c .before .enum-told2 .given .1)
-    (c .shown2 .ensures ∙ sym (rsa-handed b _ _ l s (at-agree .before .pre .0) (sym (at-agree .agree .ensures) ∙ not-false _ (c .before .before .before .before .before .before .before .before .if1 .left)) (c .before .before .before .before .before .if2 .left)))
+    let at-there = c .before .before .before .before .before in
+    let at-agree = at-there .before .before .before .before in
+    let a = sym (at-agree .agree .ensures) ∙ not-false _ (at-there .before .before .before .if1 .left) in
+    let handed = rsa-handed b _ _ l s (at-agree .before .pre .0) a (at-there .if2 .left) in
+    rw (c .before .enum-told2 .given .1) (c .shown2 .ensures ∙ sym (handed _ _ _ (omega arith) (omega arith) (omega arith)))
 
 returns-5 : tie.Need-returns-5
 returns-5 c b l s =
-    let at-agree = c .before .before .before .before .before .before .before .before .before in
-    rw (c .before .enum-told3 .given .1)
-    (c .shown3 .ensures ∙ sym (modulus-handed b _ _ l s (at-agree .before .pre .0) (sym (at-agree .agree .ensures) ∙ not-false _ (c .before .before .before .before .before .before .before .before .if1 .left)) (c .before .before .before .before .before .if2 .left)))
+    let at-there = c .before .before .before .before .before in
+    let at-agree = at-there .before .before .before .before in
+    let a = sym (at-agree .agree .ensures) ∙ not-false _ (at-there .before .before .before .if1 .left) in
+    let handed = modulus-handed b _ _ l s (at-agree .before .pre .0) a (at-there .if2 .left) in
+    rw (c .before .enum-told3 .given .1) (c .shown3 .ensures ∙ sym (handed _ _ _ (omega arith) (omega arith) (omega arith)))
 
 returns-6 : tie.Need-returns-6
 returns-6 c b l s =
-    let at-agree = c .before .before .before .before .before .before .before .before .before in
-    rw (c .before .enum-told4 .given .1)
-    (c .shown4 .ensures ∙ sym (exponent-handed b _ _ l s (at-agree .before .pre .0) (sym (at-agree .agree .ensures) ∙ not-false _ (c .before .before .before .before .before .before .before .before .if1 .left)) (c .before .before .before .before .before .if2 .left)))
+    let at-there = c .before .before .before .before .before in
+    let at-agree = at-there .before .before .before .before in
+    let a = sym (at-agree .agree .ensures) ∙ not-false _ (at-there .before .before .before .if1 .left) in
+    let f = sizes-agree (at-agree .before .args .z) a in
+    let handed = exponent-handed b _ _ l s (at-agree .before .pre .0) a (at-there .if2 .left) in
+    rw (c .before .enum-told4 .given .1) (c .shown4 .ensures ∙ sym (handed _ _ _ (omega arith) (omega arith) (omega arith)))
 
 pub judge-spec : {M : Type 1} → statement M
 judge-spec = tie.close (tie.spec (λ c κs. search needs) (λ c κs. search needs) returns sub-rsa (λ c. search needs) (λ c. search needs) (λ c. search needs) (λ c. search needs) (λ c κs. search needs) returns-2 (λ c. search needs) (λ c. search needs) (λ c. search needs) (λ c. search needs) (λ c κs. search needs) (λ c. search needs) (λ c κs. search needs) (λ c. search needs) (λ c κs. search needs) (λ c. search needs) shown-requires-4 returns-3 returns-4 returns-5 returns-6)
