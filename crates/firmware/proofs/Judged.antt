@@ -9,6 +9,7 @@ use lib.Dec.{eqb, leb, ltb}
 use borrow.Author.Tests.{eq-eqb, ne-eqb, lt-ltb, le-ltb, le-leb, leb-true, leb-false}
 use Rattle.firmware.specs.Bytes.{Span, span, nowhere, placed}
 use Rattle.firmware.specs.Css
+use Rattle.firmware.specs.Private.{rank}
 use Rattle.firmware.specs.declared.bytes.Located.{Located}
 use Rattle.firmware.specs.declared.css.Sizes.{Sizes}
 use Rattle.firmware.specs.declared.css.Component.{Component}
@@ -36,6 +37,16 @@ no-header b which l = refused b which 14 (simp (lt-ltb (length b) 128 l))
 fewer : (n m : ℕ) (t : Bool) → leb m n ≡ t → not t ≡ ltb n m
 fewer n m true e = sym (le-ltb n m (leb-true m n e))
 fewer n m false e = sym (lt-ltb n m (leb-false m n e))
+
+-- the component of a rank
+abbrev ranked : ℕ → Component
+ranked r = cond (eqb r 0) Ucode (cond (eqb r 1) Rsa (cond (eqb r 2) Modulus Exponent))
+
+pub of-rank : (which : Component) (r : ℕ) → rank which ≡ r → which ≡ ranked r
+of-rank Ucode r e = rw (← e)
+of-rank Rsa r e = rw (← e)
+of-rank Modulus r e = rw (← e)
+of-rank Exponent r e = rw (← e)
 
 -- where the components start, as the code works it out
 abbrev rsa : Sizes → ℕ

@@ -11,6 +11,7 @@ use Rattle.firmware.specs.Version.{Reading, reading, manifestVersion}
 use Rattle.firmware.specs.declared.bytes.Located.{Located}
 use Rattle.firmware.specs.declared.css.Sizes.{Sizes}
 use Rattle.firmware.specs.declared.css.Component.{Component}
+use Rattle.firmware.specs.declared.css.Component.the-variants.{Ucode, Rsa, Modulus, Exponent}
 use Rattle.firmware.specs.declared.cpd.Table.{Table}
 
 -- sizes that are dwords
@@ -24,6 +25,13 @@ pub record Small (z : Sizes) : Type 0 where
 -- the judgement of every blob of n bytes whose header says those sizes
 abbrev pub LocatedBy : ℕ → Sizes → Component → Located → Type 0
 LocatedBy n z which r = (b : List ℕ) → length b ≡ n → Css.sizes b ≡ z → r ≡ Css.located which b
+
+-- a component's place in the order
+abbrev pub rank : Component → ℕ
+rank Ucode = 0
+rank Rsa = 1
+rank Modulus = 2
+rank Exponent = 3
 
 -- twelve bytes that are a name's, zero padded
 abbrev pub Keyed : List ℕ → List ℕ → Type 0

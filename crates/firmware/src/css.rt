@@ -7,7 +7,7 @@ ghost use lib.Dec.{leb};
 ghost use Rattle.firmware.specs.Bytes.{PartOf, span, nowhere, placed};
 ghost use Rattle.firmware.specs.declared.css.Component.the-variants.{Ucode, Rsa, Modulus, Exponent};
 ghost use Rattle.firmware.specs.Css;
-ghost use Rattle.firmware.specs.Private.{Small, LocatedBy};
+ghost use Rattle.firmware.specs.Private.{Small, LocatedBy, rank};
 use crate::bytes::Located;
 use crate::bytes::dword_at;
 use crate::bytes::part;
@@ -89,6 +89,18 @@ fn shown(n: usize, needed: usize, truncated: bool, from: usize, to: usize) -> Lo
     }
 }
 
+// A component's place in the order. Asked by halves in `judge`, for a match of four is compiled to a jump table.
+fn rank(which: Component) -> u32
+    ensures { λ r. ⌜ (r ≡ rank which) × (r < 4) ⌝ }
+{
+    match which {
+        Component::Ucode => 0,
+        Component::Rsa => 1,
+        Component::Modulus => 2,
+        Component::Exponent => 3,
+    }
+}
+
 // Judges an image of n bytes by the sizes in its header. No blob is lent here, so nothing can be read a second time.
 fn judge(n: usize, z: Sizes, which: Component) -> Located
     requires { ⌜ (128 ≤ n) × Small z ⌝ }
@@ -105,12 +117,17 @@ fn judge(n: usize, z: Sizes, which: Component) -> Located
     let exponent = modulus + 4 * z.m;
     let end = 4 * z.s;
     let truncated = n < end;
-    match which {
-        Component::Ucode => shown(n, modulus, truncated, 128, rsa),
-        Component::Rsa => shown(n, modulus, truncated, rsa, modulus),
-        Component::Modulus => shown(n, end, truncated, modulus, exponent),
-        Component::Exponent => shown(n, end, truncated, exponent, end),
+    let rank = rank(which);
+    if rank < 2 {
+        if rank < 1 {
+            return shown(n, modulus, truncated, 128, rsa);
+        }
+        return shown(n, modulus, truncated, rsa, modulus);
     }
+    if rank < 3 {
+        return shown(n, end, truncated, modulus, exponent);
+    }
+    shown(n, end, truncated, exponent, end)
 }
 
 // The one judgement of an image: its answer, and where a component lies.
