@@ -7,22 +7,20 @@ use crate::words::text;
 use crate::words::told;
 use firmware::Answer;
 use firmware::Component;
+use firmware::Located;
 use firmware::ManifestVersion;
 use firmware::Version;
 
-// A part by its name, the bytes ahead of it and its own. It ends within the file, so its end does not wrap.
-fn part(name: &[u8], ahead: &[u8], bytes: &[u8]) {
-    if bytes.len() == 0 {
+// A part by its name, and where it lies. It ends within the file, so its end does not wrap.
+fn part(name: &[u8], l: Located) {
+    if l.len == 0 {
         text(b"no ");
         text(name);
         return;
     }
     text(name);
-    number(b" ", ahead.len());
-    number(
-        b" to ",
-        std::num::wrapping_add_usize(ahead.len(), bytes.len()),
-    );
+    number(b" ", l.start);
+    number(b" to ", std::num::wrapping_add_usize(l.start, l.len));
 }
 
 // An image's version.
@@ -69,11 +67,7 @@ fn verdict(a: Answer, v: Version) {
 
 // A component of an image and what follows it.
 fn component(name: &[u8], blob: &[u8], which: Component, then: &[u8]) {
-    part(
-        name,
-        firmware::css_ahead(blob, which),
-        firmware::css_part(blob, which),
-    );
+    part(name, firmware::css_located(blob, which));
     text(then);
 }
 
@@ -106,11 +100,7 @@ pub(crate) fn images() {
 
 // A component of the image in a directory and what follows it.
 fn component_inside(name: &[u8], blob: &[u8], which: Component, then: &[u8]) {
-    part(
-        name,
-        firmware::huc_ahead(blob, which),
-        firmware::huc_part(blob, which),
-    );
+    part(name, firmware::huc_located(blob, which));
     text(then);
 }
 
@@ -118,13 +108,10 @@ fn component_inside(name: &[u8], blob: &[u8], which: Component, then: &[u8]) {
 fn sought(blob: &[u8], name: &[u8]) {
     text(b"  Seek ");
     text(name);
-    let code = firmware::cpd_answer(blob, name);
+    let l = firmware::cpd_located(blob, name);
+    let code = l.code;
     if code == 0 {
-        part(
-            b": accepted,",
-            firmware::cpd_ahead(blob, name),
-            firmware::cpd_part(blob, name),
-        );
+        part(b": accepted,", l);
     } else {
         number(b": REFUSED, rule ", code as usize);
         told(

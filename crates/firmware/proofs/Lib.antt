@@ -1,4 +1,7 @@
 pub mod Tests
 pub mod Search
+pub mod Names
 pub mod Lies
 pub mod Read
+pub mod Judged
+pub mod Inner

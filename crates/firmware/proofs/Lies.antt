@@ -6,15 +6,14 @@ use mathlib.Core.List.{List}
 use native.Mathlib.Omega.{arith}
 use lib.ListN.{length, length-take, length-drop}
 use lib.Dec.{eqb, leb, ltb}
-use borrow.Author.Tests.{ltb-true, ltb-false, leb-true, eqb-true, ne-eqb, not-false}
-use Rattle.firmware.specs.Bytes.{nowhere, bytes}
+use borrow.Author.Tests.{ltb-true, ltb-false, leb-true, eqb-true, not-false}
+use Rattle.firmware.specs.Bytes.{Span, span, bytes, placed}
 use Rattle.firmware.specs.Css
 use Rattle.firmware.specs.Cpd
-use Rattle.firmware.specs.Inside.{hucName, hucBlob, hucPlace, within}
-use Rattle.firmware.specs.Private.{tableOf, foundIn, outer}
-use Rattle.firmware.specs.declared.bytes.Span.{Span}
+use Rattle.firmware.specs.Inside.{hucName, hucBlob, hucPlace}
+use Rattle.firmware.specs.Private.{tableOf}
+use Rattle.firmware.specs.declared.bytes.Located.{Located}
 use Rattle.firmware.specs.declared.cpd.Table.{Table}
-use Rattle.firmware.specs.declared.cpd.Found.{Found}
 use Rattle.firmware.specs.declared.css.Sizes.{Sizes}
 use Rattle.firmware.specs.declared.css.Component.{Component}
 use Rattle.firmware.specs.declared.css.Component.the-variants.{Ucode, Rsa, Modulus, Exponent}
@@ -24,6 +23,17 @@ use Rattle.firmware.proofs.Tests.{either, both, unmet, both-pass}
 pub record Lies (n : ℕ) (p : Span) : Type 0 where
   pub begins : p .from ≤ p .to
   pub ends : p .to ≤ n
+
+pub located-code : (k : ℕ) (t : Bool) (p : Span) {l : Located} → l ≡ placed k t p → k ≡ l .code
+located-code k t p e = rw e
+
+-- a location of a part that lies within n bytes
+module _ (n : ℕ) (p : Span) (h : Lies n p) (k : ℕ) (t : Bool) {l : Located} (e : l ≡ placed k t p) where
+  pub located-ends : l .start + l .len ≤ n
+  located-ends = rw e (omega arith)
+
+  pub located-span : span (l .start) (l .start + l .len) ≡ p
+  located-span = let g : p .from + (p .to - p .from) ≡ p .to = omega arith in rw (e, g)
 
 -- what an image of n bytes has that is accepted
 pub record Accepted (n : ℕ) (z : Sizes) : Type 0 where
@@ -54,9 +64,9 @@ css-accepted b e =
       there = ltb-false (length b) there (w .0);
     }
 
--- a component that is shown ends beyond the header and lies within the blob
+-- a component that is shown starts beyond the header and lies within the blob
 pub record Beyond (n : ℕ) (p : Span) : Type 0 where
-  pub after : 128 ≤ p .to
+  pub after : 128 ≤ p .from
   pub lies : Lies n p
 
 pub shown-beyond : (b : List ℕ) (which : Component) → Css.shown which b ≡ true → Beyond (length b) (Css.laid which (Css.sizes b))
@@ -101,26 +111,27 @@ table-lies b = room (eqb (Cpd.directoryNumber b) 0) (Cpd.headerLength b) (Cpd.co
 pub table-room : (b : List ℕ) {t : Table} → t ≡ tableOf b → t .start + 24 * t .count ≤ length b
 table-room b e = rw e (table-lies b)
 
--- the part of a name lies within the blob
-named-lies : (b name : List ℕ) → Cpd.number b name ≡ 0 → Lies (length b) (Cpd.named b name)
-unfolding Cpd.number
-named-lies b name e =
-    let u = unmet (not (Cpd.isName name)) 14 _ refl e in
-    let v = both-pass (Cpd.directoryNumber b) _ (u .1) in
-    let w = unmet (leb (Cpd.count b) (Cpd.firstEntry b name)) 20 _ refl (v .1) in
-    let x = unmet (ltb (length b) (Cpd.named b name .to)) 21 0 refl (w .1) in
-    omega (arith, ltb-false (length b) (Cpd.named b name .to) (x .0))
+-- the part of an entry lies within the blob
+entry-accepted : (b : List ℕ) (i : ℕ) → Cpd.entryNumber b i ≡ 0 → Lies (length b) (Cpd.entryPart b (Cpd.entryStart b i))
+unfolding Cpd.entryNumber
+entry-accepted b i e =
+    let to : ℕ = Cpd.entryPart b (Cpd.entryStart b i) .to in
+    let u = both-pass (Cpd.directoryNumber b) _ e in
+    let v = unmet (leb (Cpd.count b) i) 20 _ refl (u .1) in
+    let w = unmet (ltb (length b) to) 21 0 refl (v .1) in
+    omega (arith, ltb-false (length b) to (w .0))
+
+entry-lies : (b : List ℕ) (i : ℕ) → Lies (length b) (Cpd.entryPlace b i)
+unfolding Cpd.entryPlace
+entry-lies b i =
+    either (Lies (length b)) (eqb (Cpd.entryNumber b i) 0) _ _
+    (λ e. entry-accepted b i (eqb-true (Cpd.entryNumber b i) 0 e))
+    (λ _. omega arith)
 
 pub cpd-lies : (b name : List ℕ) → Lies (length b) (Cpd.place b name)
 unfolding Cpd.place
 cpd-lies b name =
-    either (Lies (length b)) (eqb (Cpd.number b name) 0) _ _
-    (λ e. named-lies b name (eqb-true (Cpd.number b name) 0 e))
-    (λ _. omega arith)
-
-pub find-lies : (b name : List ℕ) {f : Found} → f ≡ foundIn b name → Lies (length b) (f .part)
-unfolding foundIn
-find-lies b name e = rw e (cpd-lies b name)
+    either (Lies (length b)) (not (Cpd.isName name)) _ _ (λ _. omega arith) (λ _. entry-lies b (Cpd.firstEntry b name))
 
 -- the bytes of a part that lies within the blob are as many as its length
 pub length-bytes : (b : List ℕ) (p : Span) → Lies (length b) p → length (bytes b p) ≡ p .to - p .from
@@ -139,15 +150,3 @@ huc-lies b which =
     let n : length (hucBlob b) ≡ p .to - p .from = length-bytes b p outside in
     omega arith)
     (λ _. omega arith)
-
--- a place in the image, told by the code from where it ends, is the one that is shown
-chosen : (start : ℕ) (t : Bool) (p : Span) → (t ≡ true → 128 ≤ p .to) → outer start (cond t p nowhere) ≡ cond t (within start p) nowhere
-unfolding outer
-chosen start true p h =
-    let away : p .to ≡ 0 → ⊥ = (λ e. let l : 128 ≤ p .to = h refl in absurd (omega arith)) in
-    simp (ne-eqb (p .to) 0 away)
-chosen start false p h = refl
-
-pub outer-place : (start : ℕ) (which : Component) (i : List ℕ) → outer start (Css.place which i) ≡ cond (Css.shown which i) (within start (Css.laid which (Css.sizes i))) nowhere
-unfolding Css.place
-outer-place start which i = chosen start (Css.shown which i) (Css.laid which (Css.sizes i)) (λ e. shown-beyond i which e .after)

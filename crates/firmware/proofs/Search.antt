@@ -1,12 +1,13 @@
 -- Laws of `all` and `first`: how a walk goes on and how it ends. Assumes nothing.
 use Prim.Native.Nat.{ℕ, zero, suc, _+_, _-_, _≤_, _<_}
-use mathlib.Core.Path.{_≡_, sym, ap, _∙_}
+use mathlib.Core.Path.{_≡_, refl, sym, ap, _∙_}
 use mathlib.Core.Bool.{Bool, true, false, cond, and-false}
 use native.Mathlib.Numerals.{add-one}
 use mathlib.Core.Logic.{⊎-elim}
 use native.Mathlib.Nat.{eq-or-lt-of-le}
 use native.Mathlib.Omega.{arith}
 use Rattle.firmware.specs.Cpd.{all, first}
+use Rattle.firmware.proofs.Tests.{both}
 
 pub all-more : (p : ℕ → Bool) (n : ℕ) → all p n ≡ true → p n ≡ true → all p (n + 1) ≡ true
 unfolding all
@@ -22,6 +23,26 @@ all-fails p (suc n) j h q =
     (λ e. let r : p n ≡ false = rw e at q in rw r (and-false (all p n)))
     (λ l. rw (all-fails p n j l q))
     (eq-or-lt-of-le le)
+
+-- what holds of all holds of one
+pub all-holds : (p : ℕ → Bool) (n j : ℕ) → j < n → all p n ≡ true → p j ≡ true
+unfolding all
+all-holds p zero j h e = absurd (omega arith)
+all-holds p (suc n) j h e =
+    let t = both (all p n) (p n) e in
+    let le : j ≤ n = omega arith in
+    ⊎-elim (λ q. rw q (t .1)) (λ l. all-holds p n j l (t .0)) (eq-or-lt-of-le le)
+
+-- the same of each number that is asked
+pub all-same : (p q : ℕ → Bool) (n : ℕ) → ((j : ℕ) → j < n → p j ≡ q j) → all p n ≡ all q n
+unfolding all
+all-same p q zero h = refl
+all-same p q (suc n) h = rw (all-same p q n (λ j l. h j (omega arith)), h n (omega arith))
+
+pub first-same : (p q : ℕ → Bool) (i n : ℕ) → ((j : ℕ) → p j ≡ q j) → first p i n ≡ first q i n
+unfolding first
+first-same p q i zero h = refl
+first-same p q i (suc n) h = rw (h i, first-same p q (suc i) n h)
 
 first-step : (p : ℕ → Bool) (n i : ℕ) → i < n → first p i (n - i) ≡ cond (p i) i (first p (i + 1) (n - (i + 1)))
 unfolding first

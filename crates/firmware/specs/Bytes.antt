@@ -2,12 +2,12 @@
 -- 'The numbers that say no').
 use Prim.Native.Nat.{ℕ, _+_, _-_, _*_}
 use mathlib.Core.Path.{_≡_}
-use mathlib.Core.Bool.{cond}
+use mathlib.Core.Bool.{Bool, cond}
 use mathlib.Core.List.{List}
 use lib.ListN.{getD, take, drop}
 use lib.Dec.{eqb}
 use denote.Ref.{RefT, ptr, now}
-use Rattle.firmware.specs.declared.bytes.Span.{Span}
+use Rattle.firmware.specs.declared.bytes.Located.{Located}
 
 -- 'All numbers are little-endian.': the number of two bytes, and of four, from byte at on
 unfoldable pub wordAt : List ℕ → ℕ → ℕ
@@ -16,7 +16,11 @@ wordAt b at = getD b at 0 + 0x100 * getD b (at + 1) 0
 unfoldable pub dwordAt : List ℕ → ℕ → ℕ
 dwordAt b at = getD b at 0 + 0x100 * getD b (at + 1) 0 + 0x10000 * getD b (at + 2) 0 + 0x1000000 * getD b (at + 3) 0
 
--- the part from byte start to byte end, which is excluded
+-- a part of a blob: from byte `from` to byte `to`, which is excluded
+pub record Span : Type 0 where
+  pub from : ℕ
+  pub to : ℕ
+
 abbrev pub span : ℕ → ℕ → Span
 span start end = record { from = start; to = end }
 
@@ -33,6 +37,10 @@ pub record PartOf (b : RefT (List ℕ)) (p : Span) (r : RefT (List ℕ)) : Type 
   pub same-bytes : now r ≡ bytes (now b) p
   pub same-block : ptr r .0 ≡ ptr b .0
   pub same-place : ptr r .1 ≡ p .from + ptr b .1
+
+-- a part by its first byte and length, beside the number that its judgement gives and whether that says truncated
+abbrev pub placed : ℕ → Bool → Span → Located
+placed n truncated p = record { code = n; truncated = truncated; start = p .from; len = p .to - p .from }
 
 -- a number, or where it is 0 the one that is judged after it
 abbrev pub then : ℕ → ℕ → ℕ

@@ -1,11 +1,11 @@
 -- Code partition directories (document 01, 'Firmware images'): seeking a name, and where its part lies.
 use Prim.Native.Nat.{ℕ, zero, suc, _+_, _*_, _%_, _^_}
-use mathlib.Core.Bool.{Bool, true, not, _&&_, cond}
+use mathlib.Core.Bool.{Bool, true, false, not, _&&_, cond}
 use mathlib.Core.List.{List}
 use lib.ListN.{length, getD}
 use lib.Dec.{eqb, leb, ltb}
-use Rattle.firmware.specs.Bytes.{dwordAt, span, nowhere, then}
-use Rattle.firmware.specs.declared.bytes.Span.{Span}
+use Rattle.firmware.specs.Bytes.{Span, dwordAt, span, nowhere, placed, then}
+use Rattle.firmware.specs.declared.bytes.Located.{Located}
 use Rattle.firmware.specs.declared.cpd.Directory.{Directory}
 
 -- whether p holds of every number below n
@@ -64,19 +64,30 @@ agrees b name at = all (λ j. eqb (getD b (at + j) 0) (getD name j 0)) 12
 unfoldable pub firstEntry : List ℕ → List ℕ → ℕ
 firstEntry b name = first (λ i. agrees b name (entryStart b i)) 0 (count b)
 
--- where the part of the first entry of that name lies
-abbrev pub named : List ℕ → List ℕ → Span
-named b name = entryPart b (entryStart b (firstEntry b name))
+-- entry i: the directory's own numbers, 20 where there is none, 21 'entry's part lies beyond the blob'
+unfoldable pub entryNumber : List ℕ → ℕ → ℕ
+entryNumber b i =
+    then (directoryNumber b) (cond (leb (count b) i) 20 (cond (ltb (length b) (entryPart b (entryStart b i) .to)) 21 0))
 
--- 14 'name to seek not 1 to 12 bytes without a zero', the directory's own, 20 'no entry of that name', 21 'entry's part lies beyond the blob'
+-- where its part lies, or the empty part that a refusal gives
+unfoldable pub entryPlace : List ℕ → ℕ → Span
+entryPlace b i = cond (eqb (entryNumber b i) 0) (entryPart b (entryStart b i)) nowhere
+
+-- the whole judgement of entry i
+abbrev pub entryLocated : List ℕ → ℕ → Located
+entryLocated b i = placed (entryNumber b i) false (entryPlace b i)
+
+-- 14 'name to seek not 1 to 12 bytes without a zero', then those of the first entry of that name: 20 is 'no entry of that name'
 unfoldable pub number : List ℕ → List ℕ → ℕ
-number b name =
-    cond (not (isName name)) 14
-    (then (directoryNumber b) (cond (leb (count b) (firstEntry b name)) 20 (cond (ltb (length b) (named b name .to)) 21 0)))
+number b name = cond (not (isName name)) 14 (entryNumber b (firstEntry b name))
 
 -- the part that is handed back for that name
 unfoldable pub place : List ℕ → List ℕ → Span
-place b name = cond (eqb (number b name) 0) (named b name) nowhere
+place b name = cond (not (isName name)) nowhere (entryPlace b (firstEntry b name))
+
+-- the whole judgement of a name sought
+abbrev pub located : List ℕ → List ℕ → Located
+located b name = placed (number b name) false (place b name)
 
 -- what a directory has, whatever is sought: its number and, where that is 0, how many entries
 unfoldable pub entriesOf : List ℕ → Directory

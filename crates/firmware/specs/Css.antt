@@ -4,8 +4,8 @@ use mathlib.Core.Bool.{Bool, not, _&&_, cond}
 use mathlib.Core.List.{List}
 use lib.ListN.{length}
 use lib.Dec.{eqb, leb, ltb}
-use Rattle.firmware.specs.Bytes.{dwordAt, span, nowhere}
-use Rattle.firmware.specs.declared.bytes.Span.{Span}
+use Rattle.firmware.specs.Bytes.{Span, dwordAt, span, nowhere, placed}
+use Rattle.firmware.specs.declared.bytes.Located.{Located}
 use Rattle.firmware.specs.declared.css.Sizes.{Sizes}
 use Rattle.firmware.specs.declared.css.Answer.{Answer}
 use Rattle.firmware.specs.declared.css.Component.{Component}
@@ -64,6 +64,10 @@ shown Exponent b = accepted b && whole b
 unfoldable pub place : Component → List ℕ → Span
 place which b = cond (shown which b) (laid which (sizes b)) nowhere
 
--- the whole answer
+-- the whole judgement of an image of which that component is asked
+abbrev pub located : Component → List ℕ → Located
+located which b = placed (number b) (truncated b) (place which b)
+
+-- the answer alone
 abbrev pub answer : List ℕ → Answer
 answer b = record { code = number b; truncated = truncated b }

@@ -5,10 +5,10 @@ use mathlib.Core.Bool.{Bool, _&&_, cond}
 use mathlib.Core.List.{List, [], _∷_}
 use lib.ListN.{length}
 use lib.Dec.{eqb, ltb}
-use Rattle.firmware.specs.Bytes.{span, nowhere, bytes, then}
+use Rattle.firmware.specs.Bytes.{Span, span, nowhere, bytes, placed, then}
 use Rattle.firmware.specs.Css
 use Rattle.firmware.specs.Cpd
-use Rattle.firmware.specs.declared.bytes.Span.{Span}
+use Rattle.firmware.specs.declared.bytes.Located.{Located}
 use Rattle.firmware.specs.declared.css.Answer.{Answer}
 use Rattle.firmware.specs.declared.css.Component.{Component}
 
@@ -50,3 +50,7 @@ hucPlace which b =
     cond (eqb (Cpd.number b hucName) 0 && Css.shown which (hucBlob b))
     (within (Cpd.place b hucName .from) (Css.laid which (Css.sizes (hucBlob b))))
     nowhere
+
+-- the whole judgement of the image of which that component is asked
+abbrev pub hucLocated : Component → List ℕ → Located
+hucLocated which b = placed (hucNumber b) (hucTruncated b) (hucPlace which b)

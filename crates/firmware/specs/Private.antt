@@ -1,20 +1,17 @@
--- What the crate's private functions answer: the definitions of Css and Cpd, gathered as the code gathers them. No public contract cites these.
+-- What the crate's private functions answer, in the definitions of Css and Cpd. No public contract cites these.
 use Prim.Native.Nat.{ℕ, _+_, _*_, _<_, _^_}
-use mathlib.Core.Bool.{false, cond}
+use mathlib.Core.Path.{_≡_}
+use mathlib.Core.Bool.{Bool, cond}
 use mathlib.Core.List.{List}
-use lib.ListN.{length}
+use lib.ListN.{length, getD}
 use lib.Dec.{eqb, ltb}
-use Rattle.firmware.specs.Bytes.{nowhere}
 use Rattle.firmware.specs.Css
 use Rattle.firmware.specs.Cpd
-use Rattle.firmware.specs.Inside.{within}
 use Rattle.firmware.specs.Version.{Reading, reading, manifestVersion}
-use Rattle.firmware.specs.declared.bytes.Span.{Span}
+use Rattle.firmware.specs.declared.bytes.Located.{Located}
 use Rattle.firmware.specs.declared.css.Sizes.{Sizes}
-use Rattle.firmware.specs.declared.css.Image.{Image}
 use Rattle.firmware.specs.declared.css.Component.{Component}
 use Rattle.firmware.specs.declared.css.Component.the-variants.{Ucode, Rsa, Modulus, Exponent}
-use Rattle.firmware.specs.declared.cpd.Found.{Found}
 use Rattle.firmware.specs.declared.cpd.Table.{Table}
 
 -- sizes that are dwords
@@ -25,26 +22,24 @@ pub record Small (z : Sizes) : Type 0 where
   pub m-small : z .m < 2 ^ 32
   pub e-small : z .e < 2 ^ 32
 
--- an image that is refused
-abbrev pub refused : ℕ → Image
-refused n = record { code = n; truncated = false; ucode = nowhere; rsa = nowhere; modulus = nowhere; exponent = nowhere }
+-- the judgement of every blob of n bytes whose header says those sizes
+abbrev pub LocatedBy : ℕ → Sizes → Component → Located → Type 0
+LocatedBy n z which r = (b : List ℕ) → length b ≡ n → Css.sizes b ≡ z → r ≡ Css.located which b
 
--- an image judged
-unfoldable pub imageOf : List ℕ → Image
-imageOf b = record {
-  code = Css.number b;
-  truncated = Css.truncated b;
-  ucode = Css.place Ucode b;
-  rsa = Css.place Rsa b;
-  modulus = Css.place Modulus b;
-  exponent = Css.place Exponent b;
-}
+-- a component's place in the order
+abbrev pub rank : Component → ℕ
+rank Ucode = 0
+rank Rsa = 1
+rank Modulus = 2
+rank Exponent = 3
 
-abbrev pub componentOf : Component → Image → Span
-componentOf Ucode i = i .ucode
-componentOf Rsa i = i .rsa
-componentOf Modulus i = i .modulus
-componentOf Exponent i = i .exponent
+-- twelve bytes that are a name's, zero padded
+abbrev pub Keyed : List ℕ → List ℕ → Type 0
+Keyed name key = (j : ℕ) → j < 12 → getD key j 0 ≡ getD name j 0
+
+-- whether every name of so many bytes with that key may be sought
+abbrev pub NameBy : List ℕ → ℕ → Bool → Type 0
+NameBy key len r = (name : List ℕ) → length name ≡ len → Keyed name key → r ≡ Cpd.isName name
 
 -- a directory's number, where its entries start and how many they are
 unfoldable pub tableOf : List ℕ → Table
@@ -58,21 +53,9 @@ tableOf b = record {
 unfoldable pub walked : List ℕ → List ℕ → ℕ → ℕ → ℕ
 walked b name start count = Cpd.first (λ i. Cpd.agrees b name (start + 24 * i)) 0 count
 
--- a number and a part
-abbrev pub foundAt : ℕ → Span → Found
-foundAt n p = record { code = n; part = p }
-
--- the part that the entry at byte at names
-unfoldable pub entryFound : List ℕ → ℕ → Found
-entryFound b at = cond (ltb (length b) (Cpd.entryPart b at .to)) (foundAt 21 nowhere) (foundAt 0 (Cpd.entryPart b at))
-
--- a name sought
-unfoldable pub foundIn : List ℕ → List ℕ → Found
-foundIn b name = foundAt (Cpd.number b name) (Cpd.place b name)
-
--- a component of an image that starts at byte start: one that is not shown ends at byte 0
-unfoldable pub outer : ℕ → Span → Span
-outer start p = cond (eqb (p .to) 0) nowhere (within start p)
+-- a location in a part that starts at byte at: one that is not shown starts at byte 0
+unfoldable pub outer : ℕ → Located → Located
+outer at l = cond (eqb (l .start) 0) l (record { code = l .code; truncated = l .truncated; start = at + l .start; len = l .len })
 
 -- the version in the bytes of a manifest
 unfoldable pub manifestIn : List ℕ → Reading

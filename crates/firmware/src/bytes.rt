@@ -1,13 +1,28 @@
-// Little-endian numbers in a blob, and parts of a blob.
+// Little-endian numbers in a blob, and where a part of a blob lies.
 ghost use mathlib.Core.Path.{_≡_};
+ghost use mathlib.Core.Bool.{false};
 ghost use Prim.Native.Nat.{_+_, _≤_, _<_, _^_};
 ghost use lib.ListN.{length};
-ghost use Rattle.firmware.specs.Bytes.{wordAt, dwordAt, span, PartOf};
+ghost use Rattle.firmware.specs.Bytes.{wordAt, dwordAt, span, nowhere, placed, PartOf};
 
-// A part of a blob: from byte `from` to byte `to`, which is excluded. It does not leave the crate.
-pub(crate) struct Span {
-    pub from: usize,
-    pub to: usize,
+// Where a part lies in the lent blob, all of it from one judgement: 0 with the part's first byte and its length, or the number that
+// refuses it with the empty part at the blob's start. An image that is accepted without its modulus and exponent is truncated.
+pub struct Located {
+    pub code: u32,
+    pub truncated: bool,
+    pub start: usize,
+    pub len: usize,
+}
+
+pub(crate) fn refused(code: u32) -> Located
+    ensures { λ r. ⌜ r ≡ placed code false nowhere ⌝ }
+{
+    Located {
+        code,
+        truncated: false,
+        start: 0,
+        len: 0,
+    }
 }
 
 pub(crate) fn wide(b: u8) -> usize
@@ -42,20 +57,11 @@ pub(crate) fn dword_at(blob: &[u8], at: usize) -> usize
 }
 
 // That part of the blob.
-pub(crate) fn part(blob: &[u8], p: Span) -> &[u8]
-    requires { ⌜ (p .from ≤ p .to) × (p .to ≤ length (now blob)) ⌝ }
-    ensures { λ r. ⌜ PartOf (blob .entry) p r ⌝ }
+pub(crate) fn part(blob: &[u8], l: Located) -> &[u8]
+    requires { ⌜ l .start + l .len ≤ length (now blob) ⌝ }
+    ensures { λ r. ⌜ PartOf (blob .entry) (span (l .start) (l .start + l .len)) r ⌝ }
 {
-    let from = p.from;
-    let to = p.to;
-    &blob[from..to]
-}
-
-// The bytes of the blob ahead of that part.
-pub(crate) fn ahead(blob: &[u8], p: Span) -> &[u8]
-    requires { ⌜ p .from ≤ length (now blob) ⌝ }
-    ensures { λ r. ⌜ PartOf (blob .entry) (span 0 (p .from)) r ⌝ }
-{
-    let to = p.from;
-    &blob[0..to]
+    let start = l.start;
+    let end = start + l.len;
+    &blob[start..end]
 }

@@ -1,15 +1,18 @@
-// HuC code partition directories (CPD): seeking a name, and its part of the lent blob.
+// HuC code partition directories (CPD): an entry by its name or its index, and its part of the lent blob.
 ghost use mathlib.Core.Path.{_≡_};
 ghost use Prim.Native.Nat.{_+_, _*_, _≤_};
-ghost use lib.ListN.{length, getD};
-ghost use Rattle.firmware.specs.Bytes.{PartOf, span, nowhere};
+ghost use lib.ListN.{length};
+ghost use Rattle.firmware.specs.Bytes.{PartOf};
 ghost use Rattle.firmware.specs.Cpd;
-ghost use Rattle.firmware.specs.Private.{tableOf, walked, foundAt, entryFound, foundIn};
-use crate::bytes::Span;
-use crate::bytes::ahead;
+ghost use Rattle.firmware.specs.Private.{tableOf, walked};
+use crate::bytes::Located;
 use crate::bytes::dword_at;
 use crate::bytes::part;
+use crate::bytes::refused;
 use crate::bytes::wide;
+use crate::name::front;
+use crate::name::is_name;
+use crate::name::key_of;
 
 // What a directory is answered: 0 or the number that refuses it, and how many entries it has.
 pub struct Directory {
@@ -22,39 +25,6 @@ pub(crate) struct Table {
     pub code: u32,
     pub start: usize,
     pub count: usize,
-}
-
-// What seeking a name finds: 0 or the number that refuses it, and where its part lies.
-pub(crate) struct Found {
-    pub code: u32,
-    pub part: Span,
-}
-
-fn refused(code: u32) -> Found
-    ensures { λ r. ⌜ r ≡ foundAt code nowhere ⌝ }
-{
-    Found {
-        code,
-        part: Span { from: 0, to: 0 },
-    }
-}
-
-// Whether a name to seek is 1 to 12 bytes without a zero.
-fn is_name(name: &[u8]) -> bool
-    ensures { λ r. ⌜ r ≡ Cpd.isName (now (name .entry)) ⌝ }
-{
-    if name.len() < 1 {
-        return false;
-    }
-    if 12 < name.len() {
-        return false;
-    }
-    for j in 0..name.len() {
-        if name[j] == 0 {
-            return false;
-        }
-    }
-    true
 }
 
 // Whether the first four bytes are the marker $CPD.
@@ -75,7 +45,7 @@ fn no_table(code: u32) -> Table
     }
 }
 
-// Judges the directory itself: 15, 18 and 19.
+// Judges the directory itself: 15, 18 and 19. One that is refused has no entries.
 fn read_table(blob: &[u8]) -> Table
     ensures { λ r. ⌜ r ≡ tableOf (now (blob .entry)) ⌝ }
 {
@@ -97,26 +67,25 @@ fn read_table(blob: &[u8]) -> Table
     }
 }
 
-// Byte j of a name, zero padded.
-fn padded(name: &[u8], j: usize) -> u8
-    ensures { λ r. ⌜ r ≡ getD (now (name .entry)) j 0 ⌝ }
-{
-    if j < name.len() { name[j] } else { 0 }
-}
-
-// The index of the first of `count` entries from byte `start` whose twelve bytes are the name's, zero padded, or `count`.
-fn walk(blob: &[u8], start: usize, count: usize, name: &[u8]) -> usize
+// The index of the first of `count` entries from byte `start` whose twelve bytes are the key's, or `count`. Each byte of a name is read
+// once: the first four as a dword, which most entries fail, then one after another.
+fn walk(blob: &[u8], start: usize, count: usize, key: [u8; 12]) -> usize
     requires { ⌜ start + 24 * count ≤ length (now blob) ⌝ }
-    ensures { λ r. ⌜ r ≡ walked (now (blob .entry)) (now (name .entry)) start count ⌝ }
+    ensures { λ r. ⌜ r ≡ walked (now (blob .entry)) key start count ⌝ }
 {
+    let first = front(key);
     let mut i = 0;
     'entries: loop {
         if count <= i {
             break 'entries count;
         }
         let at = start + 24 * i;
-        for j in 0..12 {
-            if blob[at + j] != padded(name, j) {
+        if dword_at(blob, at) != first {
+            i += 1;
+            continue 'entries;
+        }
+        for j in 4..12 {
+            if blob[at + j] != key[j] {
                 i += 1;
                 continue 'entries;
             }
@@ -125,67 +94,67 @@ fn walk(blob: &[u8], start: usize, count: usize, name: &[u8]) -> usize
     }
 }
 
-// The part that the entry at byte `at` names.
-fn entry_part(blob: &[u8], at: usize) -> Found
-    requires { ⌜ at + 24 ≤ length (now blob) ⌝ }
-    ensures { λ r. ⌜ r ≡ entryFound (now (blob .entry)) at ⌝ }
+// Entry i of a judged directory: its offset and length are read once, and those are what is judged and handed out.
+fn entry(blob: &[u8], t: Table, i: usize) -> Located
+    requires { ⌜ t ≡ tableOf (now blob) ⌝ }
+    ensures { λ r. ⌜ r ≡ Cpd.entryLocated (now (blob .entry)) i ⌝ }
 {
-    let from = dword_at(blob, at + 12) % 0x200_0000;
-    let to = from + dword_at(blob, at + 16);
-    if blob.len() < to {
-        return refused(21);
-    }
-    Found {
-        code: 0,
-        part: Span { from, to },
-    }
-}
-
-// Seeks a name.
-pub(crate) fn find(blob: &[u8], name: &[u8]) -> Found
-    ensures { λ r. ⌜ r ≡ foundIn (now (blob .entry)) (now (name .entry)) ⌝ }
-{
-    if !is_name(name) {
-        return refused(14);
-    }
-    let t = read_table(blob);
     let code = t.code;
     if code != 0 {
         return refused(code);
     }
-    let start = t.start;
-    let count = t.count;
-    let i = walk(blob, start, count, name);
-    if count <= i {
+    if t.count <= i {
         return refused(20);
     }
-    entry_part(blob, start + 24 * i)
+    let at = t.start + 24 * i;
+    let start = dword_at(blob, at + 12) % 0x200_0000;
+    let len = dword_at(blob, at + 16);
+    if blob.len() < start + len {
+        return refused(21);
+    }
+    Located {
+        code: 0,
+        truncated: false,
+        start,
+        len,
+    }
+}
+
+// The one judgement of a name sought in a directory: its number, and where its part lies.
+pub fn cpd_located(blob: &[u8], name: &[u8]) -> Located
+    ensures { λ r. ⌜ r ≡ Cpd.located (now (blob .entry)) (now (name .entry)) ⌝ }
+{
+    let key = key_of(name);
+    if !is_name(key, name.len()) {
+        return refused(14);
+    }
+    let t = read_table(blob);
+    let i = walk(blob, t.start, t.count, key);
+    entry(blob, t, i)
+}
+
+// Entry i by its index, for a list of all entries: 20 where there is none. A name that two entries have finds the first of them only.
+pub fn cpd_entry(blob: &[u8], i: usize) -> Located
+    ensures { λ r. ⌜ r ≡ Cpd.entryLocated (now (blob .entry)) i ⌝ }
+{
+    let t = read_table(blob);
+    entry(blob, t, i)
 }
 
 // 0 or the number that refuses seeking that name.
 pub fn cpd_answer(blob: &[u8], name: &[u8]) -> u32
     ensures { λ r. ⌜ r ≡ Cpd.number (now (blob .entry)) (now (name .entry)) ⌝ }
 {
-    let f = find(blob, name);
-    f.code
+    let l = cpd_located(blob, name);
+    l.code
 }
 
 // The part of that name; the empty part at the start on a refusal.
 pub fn cpd_part<'a, 'b>(blob: &'a [u8], name: &'b [u8]) -> &'a [u8]
     ensures { λ r. ⌜ PartOf (blob .entry) (Cpd.place (now (blob .entry)) (now (name .entry))) r ⌝ }
 {
-    let f = find(blob, name);
-    let p = f.part;
-    part(blob, p)
-}
-
-// The bytes ahead of the part of that name: as many as its start, which is for showing where it lies.
-pub fn cpd_ahead<'a, 'b>(blob: &'a [u8], name: &'b [u8]) -> &'a [u8]
-    ensures { λ r. ⌜ PartOf (blob .entry) (span 0 (Cpd.place (now (blob .entry)) (now (name .entry)) .from)) r ⌝ }
-{
-    let f = find(blob, name);
-    let p = f.part;
-    ahead(blob, p)
+    let l = cpd_located(blob, name);
+    part(blob, l)
 }
 
 // Whether the blob is a directory, by number, and how many entries it has.
@@ -205,13 +174,9 @@ pub fn cpd_name(blob: &[u8], i: usize) -> &[u8]
 {
     let t = read_table(blob);
     if t.count <= i {
-        let none = Span { from: 0, to: 0 };
-        return part(blob, none);
+        return &blob[0..0];
     }
     let from = t.start + 24 * i;
-    let p = Span {
-        from,
-        to: from + 12,
-    };
-    part(blob, p)
+    let to = from + 12;
+    &blob[from..to]
 }

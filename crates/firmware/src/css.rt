@@ -1,16 +1,17 @@
 // CSS firmware images: the judgement, and each component as a part of the lent blob.
 ghost use mathlib.Core.Path.{_≡_};
+ghost use mathlib.Core.Bool.{cond};
 ghost use Prim.Native.Nat.{_+_, _*_, _≤_, _<_, _^_};
 ghost use lib.ListN.{length};
 ghost use lib.Dec.{leb};
-ghost use Rattle.firmware.specs.Bytes.{PartOf, span};
+ghost use Rattle.firmware.specs.Bytes.{PartOf, span, nowhere, placed};
 ghost use Rattle.firmware.specs.declared.css.Component.the-variants.{Ucode, Rsa, Modulus, Exponent};
 ghost use Rattle.firmware.specs.Css;
-ghost use Rattle.firmware.specs.Private.{Small, refused, imageOf, componentOf};
-use crate::bytes::Span;
-use crate::bytes::ahead;
+ghost use Rattle.firmware.specs.Private.{Small, LocatedBy, rank};
+use crate::bytes::Located;
 use crate::bytes::dword_at;
 use crate::bytes::part;
+use crate::bytes::refused;
 
 // The parts of an image beside its header, in their order.
 pub enum Component {
@@ -35,31 +36,10 @@ pub(crate) struct Sizes {
     pub e: usize,
 }
 
-// An image judged: its answer, and where each component lies.
-pub(crate) struct Image {
-    pub code: u32,
-    pub truncated: bool,
-    pub ucode: Span,
-    pub rsa: Span,
-    pub modulus: Span,
-    pub exponent: Span,
-}
+// What sizes are summed in. They are dwords, so a sum of four may wrap in 32 bits, and does not in 64.
+type Sum = u64;
 
-fn refused(code: u32) -> Image
-    ensures { λ r. ⌜ r ≡ refused code ⌝ }
-{
-    let none = Span { from: 0, to: 0 };
-    Image {
-        code,
-        truncated: false,
-        ucode: none,
-        rsa: none,
-        modulus: none,
-        exponent: none,
-    }
-}
-
-// The sizes that a header says.
+// The sizes that a header says, each read once: what is judged and what is handed out are these numbers.
 fn read_sizes(blob: &[u8]) -> Sizes
     requires { ⌜ 128 ≤ length (now blob) ⌝ }
     ensures { λ r. ⌜ (r ≡ Css.sizes (now (blob .entry))) × Small r ⌝ }
@@ -72,103 +52,103 @@ fn read_sizes(blob: &[u8]) -> Sizes
     Sizes { h, s, k, m, e }
 }
 
-// Whether the sizes agree. They are dwords, so a sum of four does not wrap.
+fn summand(size: usize) -> Sum
+    requires { ⌜ size < 2 ^ 32 ⌝ }
+    ensures { λ r. ⌜ (r ≡ size) × (r < 2 ^ 32) ⌝ }
+{
+    size as Sum
+}
+
+// Whether the sizes agree.
 fn agree(z: Sizes) -> bool
     requires { ⌜ Small z ⌝ }
     ensures { λ r. ⌜ r ≡ Css.agree z ⌝ }
 {
-    (z.h == 32 + z.k + z.m + z.e) & (1 <= z.k) & (z.h < z.s)
+    let sum = 32 + summand(z.k) + summand(z.m) + summand(z.e);
+    (summand(z.h) == sum) & (1 <= z.k) & (z.h < z.s)
 }
 
-// Whether all that the sizes speak of is among n bytes.
-fn whole(n: usize, z: Sizes) -> bool
-    requires { ⌜ Small z ⌝ }
-    ensures { λ r. ⌜ r ≡ leb (4 * z .s) n ⌝ }
+// A component from byte `from` to byte `to` of an accepted image of n bytes, shown where the bytes that it needs are there.
+fn shown(n: usize, needed: usize, truncated: bool, from: usize, to: usize) -> Located
+    requires { ⌜ from ≤ to ⌝ }
+    ensures { λ r. ⌜ r ≡ placed 0 truncated (cond (leb needed n) (span from to) nowhere) ⌝ }
 {
-    4 * z.s <= n
-}
-
-// The component of so many dwords after another one.
-fn next(p: Span, dwords: usize) -> Span
-    requires { ⌜ p .to + 4 * dwords < 2 ^ 64 ⌝ }
-    ensures { λ r. ⌜ r ≡ Css.next p dwords ⌝ }
-{
-    Span {
-        from: p.to,
-        to: p.to + 4 * dwords,
+    if n < needed {
+        return Located {
+            code: 0,
+            truncated,
+            start: 0,
+            len: 0,
+        };
+    }
+    Located {
+        code: 0,
+        truncated,
+        start: from,
+        len: to - from,
     }
 }
 
-// Judges an image.
-fn judge(blob: &[u8]) -> Image
-    ensures { λ r. ⌜ r ≡ imageOf (now (blob .entry)) ⌝ }
+// A component's place in the order. Asked by halves in `judge`, for a match of four is compiled to a jump table.
+fn rank(which: Component) -> u32
+    ensures { λ r. ⌜ (r ≡ rank which) × (r < 4) ⌝ }
+{
+    match which {
+        Component::Ucode => 0,
+        Component::Rsa => 1,
+        Component::Modulus => 2,
+        Component::Exponent => 3,
+    }
+}
+
+// Judges an image of n bytes by the sizes in its header. No blob is lent here, so nothing can be read a second time.
+fn judge(n: usize, z: Sizes, which: Component) -> Located
+    requires { ⌜ (128 ≤ n) × Small z ⌝ }
+    ensures { λ r. ⌜ LocatedBy n z which r ⌝ }
+{
+    if !agree(z) {
+        return refused(16);
+    }
+    let rsa = 128 + 4 * (z.s - z.h);
+    let modulus = rsa + 4 * z.k;
+    if n < modulus {
+        return refused(17);
+    }
+    let exponent = modulus + 4 * z.m;
+    let end = 4 * z.s;
+    let truncated = n < end;
+    let rank = rank(which);
+    if rank < 2 {
+        if rank < 1 {
+            return shown(n, modulus, truncated, 128, rsa);
+        }
+        return shown(n, modulus, truncated, rsa, modulus);
+    }
+    if rank < 3 {
+        return shown(n, end, truncated, modulus, exponent);
+    }
+    shown(n, end, truncated, exponent, end)
+}
+
+// The one judgement of an image: its answer, and where a component lies.
+pub fn css_located(blob: &[u8], which: Component) -> Located
+    ensures { λ r. ⌜ r ≡ Css.located which (now (blob .entry)) ⌝ }
 {
     if blob.len() < 128 {
         return refused(15);
     }
     let z = read_sizes(blob);
-    if !agree(z) {
-        return refused(16);
-    }
-    let ucode = Span {
-        from: 128,
-        to: 128 + 4 * (z.s - z.h),
-    };
-    let rsa = next(ucode, z.k);
-    if blob.len() < rsa.to {
-        return refused(17);
-    }
-    if !whole(blob.len(), z) {
-        let none = Span { from: 0, to: 0 };
-        return Image {
-            code: 0,
-            truncated: true,
-            ucode,
-            rsa,
-            modulus: none,
-            exponent: none,
-        };
-    }
-    let modulus = next(rsa, z.m);
-    let exponent = next(modulus, z.e);
-    Image {
-        code: 0,
-        truncated: false,
-        ucode,
-        rsa,
-        modulus,
-        exponent,
-    }
-}
-
-// Where one component lies.
-fn span_of(image: Image, which: Component) -> Span
-    ensures { λ r. ⌜ r ≡ componentOf which image ⌝ }
-{
-    match which {
-        Component::Ucode => image.ucode,
-        Component::Rsa => image.rsa,
-        Component::Modulus => image.modulus,
-        Component::Exponent => image.exponent,
-    }
-}
-
-// Where a component lies.
-pub(crate) fn css_place(blob: &[u8], which: Component) -> Span
-    ensures { λ r. ⌜ r ≡ Css.place which (now (blob .entry)) ⌝ }
-{
-    let image = judge(blob);
-    span_of(image, which)
+    judge(blob.len(), z, which)
 }
 
 // Whether the blob is an image, by number, and whether that is truncated.
 pub fn css_answer(blob: &[u8]) -> Answer
     ensures { λ r. ⌜ r ≡ Css.answer (now (blob .entry)) ⌝ }
 {
-    let image = judge(blob);
+    let l = css_located(blob, Component::Ucode);
     Answer {
-        code: image.code,
-        truncated: image.truncated,
+        code: l.code,
+        truncated: l.truncated,
     }
 }
 
@@ -176,16 +156,8 @@ pub fn css_answer(blob: &[u8]) -> Answer
 pub fn css_part(blob: &[u8], which: Component) -> &[u8]
     ensures { λ r. ⌜ PartOf (blob .entry) (Css.place which (now (blob .entry))) r ⌝ }
 {
-    let p = css_place(blob, which);
-    part(blob, p)
-}
-
-// The bytes ahead of a component: as many as its start, which is for showing where it lies.
-pub fn css_ahead(blob: &[u8], which: Component) -> &[u8]
-    ensures { λ r. ⌜ PartOf (blob .entry) (span 0 (Css.place which (now (blob .entry)) .from)) r ⌝ }
-{
-    let p = css_place(blob, which);
-    ahead(blob, p)
+    let l = css_located(blob, which);
+    part(blob, l)
 }
 
 // Each component by its name: the empty part at the blob's start where it is not shown.

@@ -1,78 +1,65 @@
 // The CSS image in the part `huc_fw` of a code partition directory, judged as a blob of its own.
 ghost use mathlib.Core.Path.{_≡_};
 ghost use Prim.Native.Nat.{_+_, _<_, _^_};
-ghost use Rattle.firmware.specs.Bytes.{PartOf, span};
+ghost use Rattle.firmware.specs.Bytes.{PartOf};
 ghost use Rattle.firmware.specs.declared.css.Component.the-variants.{Ucode, Rsa, Modulus, Exponent};
-ghost use Rattle.firmware.specs.Inside.{hucAnswer, hucPlace};
+ghost use Rattle.firmware.specs.Inside.{hucAnswer, hucLocated, hucPlace};
 ghost use Rattle.firmware.specs.Private.{outer};
-use crate::bytes::Span;
-use crate::bytes::ahead;
+use crate::bytes::Located;
 use crate::bytes::part;
-use crate::cpd::find;
+use crate::cpd::cpd_located;
 use crate::css::Answer;
 use crate::css::Component;
-use crate::css::css_answer;
-use crate::css::css_place;
+use crate::css::css_located;
+
+// A location in a part that starts at byte `at`, as one in the outer blob. A component that is shown starts past the image's header;
+// one that is not shown stays at the outer blob's start.
+fn outer(at: usize, l: Located) -> Located
+    requires { ⌜ at + l .start < 2 ^ 64 ⌝ }
+    ensures { λ r. ⌜ r ≡ outer at l ⌝ }
+{
+    if l.start == 0 {
+        return l;
+    }
+    Located {
+        code: l.code,
+        truncated: l.truncated,
+        start: at + l.start,
+        len: l.len,
+    }
+}
+
+// The one judgement: the directory's numbers and then the image's, and where a component lies in the outer blob.
+pub fn huc_located(blob: &[u8], which: Component) -> Located
+    ensures { λ r. ⌜ r ≡ hucLocated which (now (blob .entry)) ⌝ }
+{
+    let f = cpd_located(blob, b"huc_fw");
+    if f.code != 0 {
+        return f;
+    }
+    let start = f.start;
+    let end = start + f.len;
+    let l = css_located(&blob[start..end], which);
+    outer(start, l)
+}
 
 // Whether the directory has such an image, by number, and whether that is truncated.
 pub fn huc_answer(blob: &[u8]) -> Answer
     ensures { λ r. ⌜ r ≡ hucAnswer (now (blob .entry)) ⌝ }
 {
-    let f = find(blob, b"huc_fw");
-    let code = f.code;
-    if code != 0 {
-        return Answer {
-            code,
-            truncated: false,
-        };
+    let l = huc_located(blob, Component::Ucode);
+    Answer {
+        code: l.code,
+        truncated: l.truncated,
     }
-    let from = f.part.from;
-    let to = f.part.to;
-    css_answer(&blob[from..to])
-}
-
-// A component of an image that starts at byte `start`, as a place in the outer blob. One that is not shown ends at byte 0.
-fn outer(start: usize, p: Span) -> Span
-    requires { ⌜ (start + p .from < 2 ^ 64) × (start + p .to < 2 ^ 64) ⌝ }
-    ensures { λ r. ⌜ r ≡ outer start p ⌝ }
-{
-    if p.to == 0 {
-        return Span { from: 0, to: 0 };
-    }
-    Span {
-        from: start + p.from,
-        to: start + p.to,
-    }
-}
-
-// Where a component lies in the outer blob.
-fn place(blob: &[u8], which: Component) -> Span
-    ensures { λ r. ⌜ r ≡ hucPlace which (now (blob .entry)) ⌝ }
-{
-    let f = find(blob, b"huc_fw");
-    if f.code != 0 {
-        return Span { from: 0, to: 0 };
-    }
-    let from = f.part.from;
-    let to = f.part.to;
-    let p = css_place(&blob[from..to], which);
-    outer(from, p)
 }
 
 // A component of that image; the empty part at the outer blob's start where it is not shown.
 pub fn huc_part(blob: &[u8], which: Component) -> &[u8]
     ensures { λ r. ⌜ PartOf (blob .entry) (hucPlace which (now (blob .entry))) r ⌝ }
 {
-    let p = place(blob, which);
-    part(blob, p)
-}
-
-// The bytes of the outer blob ahead of a component.
-pub fn huc_ahead(blob: &[u8], which: Component) -> &[u8]
-    ensures { λ r. ⌜ PartOf (blob .entry) (span 0 (hucPlace which (now (blob .entry)) .from)) r ⌝ }
-{
-    let p = place(blob, which);
-    ahead(blob, p)
+    let l = huc_located(blob, which);
+    part(blob, l)
 }
 
 // Each component by its name.

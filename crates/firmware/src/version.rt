@@ -4,8 +4,9 @@ ghost use Rattle.firmware.specs.Version.{ofVersion, ofManifest, cssReadi
 ghost use Rattle.firmware.specs.Private.{manifestIn};
 use crate::bytes::dword_at;
 use crate::bytes::word_at;
-use crate::cpd::find;
-use crate::css::css_answer;
+use crate::cpd::cpd_located;
+use crate::css::Component;
+use crate::css::css_located;
 
 // The version of a CSS image, or the number that refuses it.
 pub enum Version {
@@ -28,8 +29,8 @@ pub enum ManifestVersion {
 pub fn css_version(blob: &[u8]) -> Version
     ensures { λ r. ⌜ ofVersion r ≡ cssReading (now (blob .entry)) ⌝ }
 {
-    let a = css_answer(blob);
-    let code = a.code;
+    let l = css_located(blob, Component::Ucode);
+    let code = l.code;
     if code != 0 {
         return Version::Refused(code);
     }
@@ -64,26 +65,26 @@ fn version_in(m: &[u8]) -> ManifestVersion
 pub fn manifest_version(blob: &[u8]) -> ManifestVersion
     ensures { λ r. ⌜ ofManifest r ≡ manifestReading (now (blob .entry)) ⌝ }
 {
-    let f = find(blob, b"HUCP.man");
+    let f = cpd_located(blob, b"HUCP.man");
     let code = f.code;
     if code != 0 {
         return ManifestVersion::Refused(code);
     }
-    let from = f.part.from;
-    let to = f.part.to;
-    version_in(&blob[from..to])
+    let start = f.start;
+    let end = start + f.len;
+    version_in(&blob[start..end])
 }
 
 // The version of the image in the part `huc_fw` of a directory.
 pub fn huc_version(blob: &[u8]) -> Version
     ensures { λ r. ⌜ ofVersion r ≡ hucReading (now (blob .entry)) ⌝ }
 {
-    let f = find(blob, b"huc_fw");
+    let f = cpd_located(blob, b"huc_fw");
     let code = f.code;
     if code != 0 {
         return Version::Refused(code);
     }
-    let from = f.part.from;
-    let to = f.part.to;
-    css_version(&blob[from..to])
+    let start = f.start;
+    let end = start + f.len;
+    css_version(&blob[start..end])
 }

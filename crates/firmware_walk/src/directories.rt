@@ -20,12 +20,9 @@ pub(crate) fn seek(blob: &Blob, len: usize, name: &[u8]) {
 
 // What seeking a name answers, and where its part lies; ends the line.
 pub(crate) fn sought(blob: &[u8], name: &[u8]) {
-    verdict(firmware::cpd_answer(blob, name));
-    part(
-        b"; part ",
-        firmware::cpd_ahead(blob, name),
-        firmware::cpd_part(blob, name),
-    );
+    let l = firmware::cpd_located(blob, name);
+    verdict(l.code);
+    part(b"; part ", l);
     text(b"\n");
 }
 

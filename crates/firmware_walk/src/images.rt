@@ -23,11 +23,7 @@ fn sizes(h: u32, s: u32, k: u32, m: u32, e: u32) -> Sizes {
 
 // A component's name and place.
 fn component(name: &[u8], blob: &[u8], which: Component) {
-    part(
-        name,
-        firmware::css_ahead(blob, which),
-        firmware::css_part(blob, which),
-    );
+    part(name, firmware::css_located(blob, which));
 }
 
 // A blob by its length: what it is answered, its version, and where its components lie.

@@ -60,11 +60,7 @@ pub(crate) fn manifests() {
 
 // A component's name and place in the outer blob.
 fn component(name: &[u8], blob: &[u8], which: Component) {
-    part(
-        name,
-        firmware::huc_ahead(blob, which),
-        firmware::huc_part(blob, which),
-    );
+    part(name, firmware::huc_located(blob, which));
 }
 
 // The image in a directory: what it is answered, its version, and where its components lie in the directory's blob.

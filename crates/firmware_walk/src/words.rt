@@ -1,5 +1,6 @@
 // The words and numbers that the lines are made of, and document 01's rule behind each number that says no.
 use firmware::Answer;
+use firmware::Located;
 use firmware::ManifestVersion;
 use firmware::Version;
 
@@ -57,14 +58,11 @@ pub(crate) fn image_verdict(a: Answer) {
     }
 }
 
-// A part by the bytes ahead of it and its own. It ends within the blob, so its end does not wrap.
-pub(crate) fn part(name: &[u8], ahead: &[u8], bytes: &[u8]) {
-    number(name, ahead.len());
-    number(
-        b" to ",
-        std::num::wrapping_add_usize(ahead.len(), bytes.len()),
-    );
-    number(b", length ", bytes.len());
+// Where a part lies. It ends within the blob, so its end does not wrap.
+pub(crate) fn part(name: &[u8], l: Located) {
+    number(name, l.start);
+    number(b" to ", std::num::wrapping_add_usize(l.start, l.len));
+    number(b", length ", l.len);
 }
 
 // An image's version, or the number that refuses to read one; ends the line.

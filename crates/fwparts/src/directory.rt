@@ -3,7 +3,6 @@ use crate::fields::dword_at;
 use crate::fields::entry_dword;
 use crate::fields::header_length;
 use crate::inside;
-use crate::names::first_of_name;
 use crate::names::show;
 use crate::names::trimmed;
 use crate::words::number;
@@ -67,38 +66,25 @@ fn every_entry(blob: &[u8], count: usize) {
     }
 }
 
-// An entry's name, and its part or why it has none. A name finds its first entry only.
+// An entry's name, and its part or why it has none. Entries are taken by their index, so that a list takes one pass: each line is that entry's own,
+// also where a seek would not come to it, for an earlier entry has its name.
 fn entry(blob: &[u8], i: usize) {
-    let name = trimmed(firmware::cpd_name(blob, i));
     number(b"  entry ", i as u64);
     text(b", \"");
-    show(name);
+    show(trimmed(firmware::cpd_name(blob, i)));
     text(b"\"");
-    let first = first_of_name(blob, i);
-    if first < i {
-        number(
-            b": never found, since that is the name of entry ",
-            first as u64,
-        );
-        text(b"\n");
-        return;
-    }
-    let code = firmware::cpd_answer(blob, name);
+    let l = firmware::cpd_entry(blob, i);
+    let code = l.code;
     if code == 0 {
-        part(
-            b": ",
-            firmware::cpd_ahead(blob, name),
-            firmware::cpd_part(blob, name),
-        );
+        part(b": ", l);
     } else {
         entry_refusal(code, blob, i);
     }
 }
 
-// Why seeking an entry's name is refused.
+// Why an entry is refused.
 fn entry_refusal(code: u32, blob: &[u8], i: usize) {
     match code {
-        14 => text(b": 14: a name to seek is 1 to 12 bytes without a zero\n"),
         21 => {
             let from = (entry_dword(blob, i, 12) % 0x200_0000) as u64;
             number(b": 21: a part from ", from);

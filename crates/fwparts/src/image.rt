@@ -35,11 +35,7 @@ pub(crate) fn report(blob: &[u8]) {
 
 // A component's name and place.
 fn component(name: &[u8], blob: &[u8], which: Component) {
-    part(
-        name,
-        firmware::css_ahead(blob, which),
-        firmware::css_part(blob, which),
-    );
+    part(name, firmware::css_located(blob, which));
 }
 
 // The bytes of a whole image: 4s.

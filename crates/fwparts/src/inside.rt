@@ -59,11 +59,7 @@ fn seek_refusal(code: u32) {
 
 // A component's name and place in the file.
 fn component(name: &[u8], blob: &[u8], which: Component) {
-    part(
-        name,
-        firmware::huc_ahead(blob, which),
-        firmware::huc_part(blob, which),
-    );
+    part(name, firmware::huc_located(blob, which));
 }
 
 // The image in huc_fw, which is judged as a blob of its own.

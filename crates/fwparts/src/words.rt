@@ -1,4 +1,5 @@
 // The words and numbers that the lines are made of.
+use firmware::Located;
 use firmware::Version;
 
 // Text as it stands.
@@ -17,12 +18,12 @@ pub(crate) fn number(name: &[u8], n: u64) {
     io::print_decimal(1, n);
 }
 
-// A part by the bytes ahead of it and its own. It ends within the file, so its end does not wrap.
-pub(crate) fn part(name: &[u8], ahead: &[u8], bytes: &[u8]) {
-    let end = std::num::wrapping_add_usize(ahead.len(), bytes.len());
-    number(name, ahead.len() as u64);
+// Where a part lies. It ends within the file, so its end does not wrap.
+pub(crate) fn part(name: &[u8], l: Located) {
+    let end = std::num::wrapping_add_usize(l.start, l.len);
+    number(name, l.start as u64);
     number(b" to ", end as u64);
-    number(b", length ", bytes.len() as u64);
+    number(b", length ", l.len as u64);
     text(b"\n");
 }
 

@@ -1,13 +1,15 @@
-// Firmware parts for C: located, and copied out in the call that judges them.
+// Firmware parts for C: located, and copied out in the call that judges them. One call makes one judgement: number, start and length are that one's.
 ghost use mathlib.Core.Path.{_≡_};
 ghost use mathlib.Core.List.{_++_};
-ghost use Prim.Native.Nat.{_≤_};
+ghost use Prim.Native.Nat.{_+_, _≤_};
 ghost use lib.ListN.{length, drop};
+ghost use Rattle.firmware.specs.Bytes.{bytes, span};
 ghost use Rattle.firmware.specs.Css;
 ghost use Rattle.firmware.specs.Inside.{hucNumber, hucTruncated};
 ghost use Rattle.guc.specs.Parts.{imageBy, componentOf, ofWhich, cssPart, hucPart, cpdPart, copied, copiedBy, cssCopy, hucCopy, cpdCopy};
 use firmware::Answer;
 use firmware::Component;
+use firmware::Located;
 
 // 0 or the number that refuses an image, and whether it is truncated, 0 or 1.
 #[repr(C)]
@@ -65,6 +67,16 @@ fn as_image(a: Answer) -> Image
     }
 }
 
+fn as_part(l: Located) -> Part
+    ensures { λ r. ⌜ r ≡ record { code = l .code; start = l .start; len = l .len } ⌝ }
+{
+    Part {
+        code: l.code,
+        start: l.start,
+        len: l.len,
+    }
+}
+
 #[no_mangle]
 pub extern "C" fn guc_css_answer(blob: &[u8]) -> Image
     ensures { λ r. ⌜ r ≡ imageBy (Css.number (now (blob .entry))) (Css.truncated (now (blob .entry))) ⌝ }
@@ -92,14 +104,8 @@ pub extern "C" fn guc_css_part(blob: &[u8], which: u32) -> Part
             len: 0,
         },
         Which::One(c) => {
-            let a = firmware::css_answer(blob);
-            let ahead = firmware::css_ahead(blob, c);
-            let part = firmware::css_part(blob, c);
-            Part {
-                code: a.code,
-                start: ahead.len(),
-                len: part.len(),
-            }
+            let l = firmware::css_located(blob, c);
+            as_part(l)
         }
     }
 }
@@ -115,14 +121,8 @@ pub extern "C" fn guc_huc_part(blob: &[u8], which: u32) -> Part
             len: 0,
         },
         Which::One(c) => {
-            let a = firmware::huc_answer(blob);
-            let ahead = firmware::huc_ahead(blob, c);
-            let part = firmware::huc_part(blob, c);
-            Part {
-                code: a.code,
-                start: ahead.len(),
-                len: part.len(),
-            }
+            let l = firmware::huc_located(blob, c);
+            as_part(l)
         }
     }
 }
@@ -131,14 +131,8 @@ pub extern "C" fn guc_huc_part(blob: &[u8], which: u32) -> Part
 pub extern "C" fn guc_cpd_part(blob: &[u8], name: &[u8]) -> Part
     ensures { λ r. ⌜ r ≡ cpdPart (now (blob .entry)) (now (name .entry)) ⌝ }
 {
-    let code = firmware::cpd_answer(blob, name);
-    let ahead = firmware::cpd_ahead(blob, name);
-    let part = firmware::cpd_part(blob, name);
-    Part {
-        code,
-        start: ahead.len(),
-        len: part.len(),
-    }
+    let l = firmware::cpd_located(blob, name);
+    as_part(l)
 }
 
 // Copies src to the front of dst: a straight run, with no test inside.
@@ -168,6 +162,16 @@ fn copy_out(code: u32, part: &[u8], dst: &mut [u8]) -> Copied
     Copied { code: 0, len }
 }
 
+// Copies out the part that was located: its bytes are read, and nothing that was judged is read again.
+fn copy_part(blob: &[u8], l: Located, dst: &mut [u8]) -> Copied
+    requires { ⌜ l .start + l .len ≤ length (now blob) ⌝ }
+    ensures { λ r. ⌜ copied r (now (dst .exit)) ≡ copiedBy (l .code) (bytes (now (blob .entry)) (span (l .start) (l .start + l .len))) (now (dst .entry)) ⌝ }
+{
+    let start = l.start;
+    let end = start + l.len;
+    copy_out(l.code, &blob[start..end], dst)
+}
+
 #[no_mangle]
 pub extern "C" fn guc_css_copy(blob: &[u8], which: u32, dst: &mut [u8]) -> Copied
     ensures { λ r. ⌜ copied r (now (dst .exit)) ≡ cssCopy which (now (blob .entry)) (now (dst .entry)) ⌝ }
@@ -175,9 +179,8 @@ pub extern "C" fn guc_css_copy(blob: &[u8], which: u32, dst: &mut [u8]) -> Copie
     match component(which) {
         Which::None => Copied { code: 101, len: 0 },
         Which::One(c) => {
-            let a = firmware::css_answer(blob);
-            let part = firmware::css_part(blob, c);
-            copy_out(a.code, part, dst)
+            let l = firmware::css_located(blob, c);
+            copy_part(blob, l, dst)
         }
     }
 }
@@ -189,9 +192,8 @@ pub extern "C" fn guc_huc_copy(blob: &[u8], which: u32, dst: &mut [u8]) -> Copie
     match component(which) {
         Which::None => Copied { code: 101, len: 0 },
         Which::One(c) => {
-            let a = firmware::huc_answer(blob);
-            let part = firmware::huc_part(blob, c);
-            copy_out(a.code, part, dst)
+            let l = firmware::huc_located(blob, c);
+            copy_part(blob, l, dst)
         }
     }
 }
@@ -200,7 +202,6 @@ pub extern "C" fn guc_huc_copy(blob: &[u8], which: u32, dst: &mut [u8]) -> Copie
 pub extern "C" fn guc_cpd_copy(blob: &[u8], name: &[u8], dst: &mut [u8]) -> Copied
     ensures { λ r. ⌜ copied r (now (dst .exit)) ≡ cpdCopy (now (blob .entry)) (now (name .entry)) (now (dst .entry)) ⌝ }
 {
-    let code = firmware::cpd_answer(blob, name);
-    let part = firmware::cpd_part(blob, name);
-    copy_out(code, part, dst)
+    let l = firmware::cpd_located(blob, name);
+    copy_part(blob, l, dst)
 }

@@ -37,7 +37,7 @@ unfolding
     allowed used free zeros allZero idle activeSend need entry found sendFound receiveFound marked openNumber openBy
     sendDecision Send.lookBy Send.moveNumber Send.moveBy Send.publishNumber Send.publishBy Send.moves Send.rest receiveDecision Receive.lookBy
     dwordAt Css.sizes Css.agree Css.laid Css.number Css.truncated Css.shown Css.place
-    Cpd.all Cpd.first Cpd.isName Cpd.marked Cpd.directoryNumber Cpd.firstEntry Cpd.number Cpd.place
+    Cpd.all Cpd.first Cpd.isName Cpd.marked Cpd.directoryNumber Cpd.firstEntry Cpd.entryNumber Cpd.entryPlace Cpd.number Cpd.place
 examples =
     refl & refl & refl & refl & refl & refl & refl
     & refl & refl

@@ -6,7 +6,9 @@ use Rattle.firmware.proofs.css.agree.Tie as tie
 
 returns : tie.Need-returns
 unfolding Css.agree
-returns c = search needs
+returns c =
+    let at-sum = c .before .before .before in
+    rw (c .before .before .summand4 .ensures .0, at-sum .before .before .summand .ensures .0, at-sum .before .summand2 .ensures .0, at-sum .summand3 .ensures .0)
 
 pub agree-spec : {M : Type 1} → statement M
-agree-spec = tie.close (tie.spec (λ c. search needs) (λ c. search needs) (λ c. search needs) returns)
+agree-spec = tie.close (tie.spec (λ c κs. search needs) (λ c. search needs) (λ c κs. search needs) (λ c. search needs) (λ c κs. search needs) (λ c. search needs) (λ c κs. search needs) returns)

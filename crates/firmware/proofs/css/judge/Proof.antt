@@ -1,85 +1,82 @@
--- `css::judge` meets its contract: at each `return` the tests that led there say which number it is. Assumes nothing.
-use borrow.Author.Tests.{lt-ltb, le-ltb, not-true, not-false}
-use mathlib.Core.Path.{sym, _∙_}
+-- `css::judge` meets its contract. Assumes nothing.
+use mathlib.Core.Path.{_≡_, sym, _∙_}
+use borrow.Author.Tests.{not-true, not-false}
 use native.Mathlib.Omega.{arith}
-use Rattle.firmware.specs.Css
-use Rattle.firmware.specs.Private.{imageOf}
 use Rattle.firmware.proofs.Lies.{sizes-agree}
+use Rattle.firmware.proofs.Judged.{sizes-disagree, too-short, of-rank, ucode-handed, rsa-handed, modulus-handed, exponent-handed}
 use borrow.Author.Needs.{needs}
 use Rattle.firmware.proofs.css.judge.Statement.{statement}
 use Rattle.firmware.proofs.css.judge.Tie as tie
 
 returns : tie.Need-returns
-unfolding imageOf Css.number Css.truncated Css.shown Css.place
-returns c = simp (lt-ltb _ _ (c .before .if1 .taken)) (c .refused .ensures)
+returns c b l s =
+    let at-agree = c .before .before in
+    let a = sym (at-agree .agree .ensures) ∙ not-true _ (c .before .if1 .taken) in
+    c .refused .ensures ∙ sym (sizes-disagree b _ _ l s (at-agree .before .pre .0) _ a)
 
-returns-2 : tie.Need-returns-2
-unfolding imageOf Css.number Css.truncated Css.shown Css.place
-returns-2 c =
-    let at-sizes = c .before .before .before in
-    simp (
-      le-ltb _ _ (at-sizes .before .if1 .left),
-      ← at-sizes .read-sizes .ensures .0,
-      ← c .before .before .agree .ensures,
-      c .before .if2 .taken,
-    )
-    (c .refused2 .ensures)
-
-sub-t8 : tie.Need-sub-t8
-sub-t8 c =
-    let a = sizes-agree (c .before .before .before .read-sizes .result) (sym (c .before .before .agree .ensures) ∙ not-false _ (c .before .if2 .left)) in
+sub-rsa : tie.Need-sub-rsa
+sub-rsa c =
+    let at-agree = c .before .before in
+    let a = sizes-agree (at-agree .before .args .z) (sym (at-agree .agree .ensures) ∙ not-false _ (c .before .if1 .left)) in
     omega arith
 
+returns-2 : tie.Need-returns-2
+returns-2 c b l s =
+    let at-agree = c .before .before .before .before .before in
+    let a = sym (at-agree .agree .ensures) ∙ not-false _ (c .before .before .before .before .if1 .left) in
+    c .refused2 .ensures ∙ sym (too-short b _ _ l s (at-agree .before .pre .0) a _ (c .before .if2 .taken))
+
+shown-requires-4 : tie.Need-shown-requires-4
+shown-requires-4 c κs =
+    let at-agree = c .before .before .before .before .before .before .before .before .before in
+    let a = sizes-agree (at-agree .before .args .z) (sym (at-agree .agree .ensures) ∙ not-false _ (c .before .before .before .before .before .before .before .before .if1 .left)) in
+    omega arith
+
+-- each component: what it needs, where it starts and where it ends are facts about numbers
 returns-3 : tie.Need-returns-3
-unfolding imageOf Css.number Css.truncated Css.shown Css.place
-returns-3 c =
-    let at-next = c .before .before .before in
-    let at-agree = at-next .before .before .before in
-    simp (
-      le-ltb _ _ (at-agree .before .before .if1 .left),
-      ← at-agree .before .read-sizes .ensures .0,
-      ← at-agree .agree .ensures,
-      at-next .before .before .if2 .left,
-      lt-ltb _ _ (rw (at-next .next .ensures) at (c .before .if3 .taken)),
-    )
-    (c .refused3 .ensures)
+returns-3 c b l s =
+    let at-rank = c .before .before .before in
+    let r : at-rank .rank .result ≡ 0 = omega arith in
+    let at-there = at-rank .before .before .before in
+    let at-agree = at-there .before .before .before .before in
+    let a = sym (at-agree .agree .ensures) ∙ not-false _ (at-there .before .before .before .if1 .left) in
+    let handed = ucode-handed b _ _ l s (at-agree .before .pre .0) a (at-there .if2 .left) in
+    rw (of-rank (at-agree .before .args .which) 0 (sym (at-rank .rank .ensures .0) ∙ r))
+    (c .shown .ensures ∙ sym (handed _ _ _ (omega arith) (omega arith) (omega arith)))
 
 returns-4 : tie.Need-returns-4
-unfolding imageOf Css.number Css.truncated Css.shown Css.place Css.laid
-returns-4 c =
-    let at-next = c .before .before .before .before in
-    let at-agree = at-next .before .before .before in
-    simp (
-      le-ltb _ _ (at-agree .before .before .if1 .left),
-      ← at-agree .before .read-sizes .ensures .0,
-      ← at-agree .agree .ensures,
-      at-next .before .before .if2 .left,
-      le-ltb _ _ (rw (at-next .next .ensures) at (c .before .before .if3 .left)),
-      ← c .before .whole .ensures,
-      not-true (c .before .whole .result) (c .if4 .taken),
-      at-next .next .ensures,
-    )
-
-next-requires-3 : tie.Need-next-requires-3
-next-requires-3 c κs = rw (c .next2 .ensures, c .before .before .before .before .before .next .ensures) (omega arith)
+returns-4 c b l s =
+    let at-rank = c .before .before .before in
+    let r : at-rank .rank .result ≡ 1 = omega arith in
+    let at-there = at-rank .before .before .before in
+    let at-agree = at-there .before .before .before .before in
+    let a = sym (at-agree .agree .ensures) ∙ not-false _ (at-there .before .before .before .if1 .left) in
+    let handed = rsa-handed b _ _ l s (at-agree .before .pre .0) a (at-there .if2 .left) in
+    rw (of-rank (at-agree .before .args .which) 1 (sym (at-rank .rank .ensures .0) ∙ r))
+    (c .shown2 .ensures ∙ sym (handed _ _ _ (omega arith) (omega arith) (omega arith)))
 
 returns-5 : tie.Need-returns-5
-unfolding imageOf Css.number Css.truncated Css.shown Css.place Css.laid
-returns-5 c =
-    let at-next = c .before .before .before .before .before .before in
-    let at-agree = at-next .before .before .before in
-    simp (
-      le-ltb _ _ (at-agree .before .before .if1 .left),
-      ← at-agree .before .read-sizes .ensures .0,
-      ← at-agree .agree .ensures,
-      at-next .before .before .if2 .left,
-      le-ltb _ _ (rw (at-next .next .ensures) at (c .before .before .before .before .if3 .left)),
-      ← c .before .before .before .whole .ensures,
-      not-false (c .before .before .before .whole .result) (c .before .before .if4 .left),
-      c .next3 .ensures,
-      c .before .next2 .ensures,
-      at-next .next .ensures,
-    )
+returns-5 c b l s =
+    let at-rank = c .before .before .before in
+    let r : at-rank .rank .result ≡ 2 = omega arith in
+    let at-there = at-rank .before .before .before in
+    let at-agree = at-there .before .before .before .before in
+    let a = sym (at-agree .agree .ensures) ∙ not-false _ (at-there .before .before .before .if1 .left) in
+    let handed = modulus-handed b _ _ l s (at-agree .before .pre .0) a (at-there .if2 .left) in
+    rw (of-rank (at-agree .before .args .which) 2 (sym (at-rank .rank .ensures .0) ∙ r))
+    (c .shown3 .ensures ∙ sym (handed _ _ _ (omega arith) (omega arith) (omega arith)))
+
+returns-6 : tie.Need-returns-6
+returns-6 c b l s =
+    let at-rank = c .before .before .before in
+    let r : at-rank .rank .result ≡ 3 = omega arith in
+    let at-there = at-rank .before .before .before in
+    let at-agree = at-there .before .before .before .before in
+    let a = sym (at-agree .agree .ensures) ∙ not-false _ (at-there .before .before .before .if1 .left) in
+    let f = sizes-agree (at-agree .before .args .z) a in
+    let handed = exponent-handed b _ _ l s (at-agree .before .pre .0) a (at-there .if2 .left) in
+    rw (of-rank (at-agree .before .args .which) 3 (sym (at-rank .rank .ensures .0) ∙ r))
+    (c .shown4 .ensures ∙ sym (handed _ _ _ (omega arith) (omega arith) (omega arith)))
 
 pub judge-spec : {M : Type 1} → statement M
-judge-spec = tie.close (tie.spec (λ c κs. search needs) returns (λ c κs. search needs) (λ c κs. search needs) (λ c κs. search needs) returns-2 sub-t8 (λ c. search needs) (λ c. search needs) (λ c κs. search needs) (λ c κs. search needs) returns-3 (λ c κs. search needs) returns-4 (λ c κs. search needs) next-requires-3 returns-5)
+judge-spec = tie.close (tie.spec (λ c κs. search needs) (λ c κs. search needs) returns sub-rsa (λ c. search needs) (λ c. search needs) (λ c. search needs) (λ c. search needs) (λ c κs. search needs) returns-2 (λ c. search needs) (λ c. search needs) (λ c. search needs) (λ c κs. search needs) (λ c κs. search needs) returns-3 (λ c κs. search needs) returns-4 (λ c κs. search needs) returns-5 shown-requires-4 returns-6)

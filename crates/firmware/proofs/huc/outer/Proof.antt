@@ -11,7 +11,7 @@ returns c = simp (eq-eqb _ _ (c .if1 .taken))
 
 returns-2 : tie.Need-returns-2
 unfolding outer
-returns-2 c = simp (ne-eqb _ _ (c .before .before .if1 .left))
+returns-2 c = simp (ne-eqb _ _ (c .before .if1 .left))
 
 pub outer-spec : {M : Type 1} → statement M
-outer-spec = tie.close (tie.spec returns (λ c. search needs) (λ c. search needs) returns-2)
+outer-spec = tie.close (tie.spec returns (λ c. search needs) returns-2)

@@ -1,12 +1,18 @@
 -- `parts::guc_cpd_copy` meets its contract. Assumes nothing.
+use Rattle.firmware.proofs.Lies.{cpd-lies, located-code, located-ends, located-span}
 use Rattle.guc.specs.Parts.{cpdCopy}
 use borrow.Author.Needs.{needs}
 use Rattle.guc.proofs.parts.guc_cpd_copy.Statement.{statement}
 use Rattle.guc.proofs.parts.guc_cpd_copy.Tie as tie
 
+copy-part-requires : tie.Need-copy-part-requires
+copy-part-requires c κs = located-ends _ _ (cpd-lies _ _) _ _ (c .before .cpd-located .ensures)
+
 returns : tie.Need-returns
 unfolding cpdCopy
-returns c = rw (← c .before .before .before .before .before .cpd-answer .ensures, ← c .before .before .before .before .cpd-part .ensures .same-bytes) (c .before .before .copy-out .ensures)
+returns c =
+    let found = c .before .before .before .before .cpd-located .ensures in
+    rw (located-code _ _ _ found, ← located-span _ _ (cpd-lies _ _) _ _ found) (c .before .before .copy-part .ensures)
 
 pub guc-cpd-copy-spec : {M : Type 1} → statement M
-guc-cpd-copy-spec = tie.close (tie.spec (λ c κs. search needs) (λ c κs. search needs) (λ c κs. search needs) (λ c. search needs) returns)
+guc-cpd-copy-spec = tie.close (tie.spec (λ c κs. search needs) copy-part-requires (λ c. search needs) returns)

@@ -1,11 +1,13 @@
 -- `parts::guc_huc_copy` meets its contract. Assumes nothing.
-use mathlib.Core.Path.{sym, ap}
 use mathlib.Core.Option.{Option·elim}
-use Rattle.firmware.specs.declared.css.Answer.{Answer}
+use Rattle.firmware.proofs.Lies.{huc-lies, located-code, located-ends, located-span}
 use Rattle.guc.specs.Parts.{hucCopy, ofWhich}
 use borrow.Author.Needs.{needs}
 use Rattle.guc.proofs.parts.guc_huc_copy.Statement.{statement}
 use Rattle.guc.proofs.parts.guc_huc_copy.Tie as tie
+
+copy-part-requires : tie.Need-copy-part-requires
+copy-part-requires c κs = located-ends _ _ (huc-lies _ _) _ _ (c .before .huc-located .ensures)
 
 returns : tie.Need-returns
 unfolding hucCopy ofWhich Option·elim
@@ -14,8 +16,9 @@ returns c = rw (← c .before .before .component .ensures, c .enum-told .given .
 returns-2 : tie.Need-returns-2
 unfolding hucCopy ofWhich Option·elim
 returns-2 c =
-    let number = sym (ap (λ (a : Answer). a .code) (c .before .before .before .before .before .huc-answer .ensures)) in
-    rw (← c .before .before .before .before .before .before .before .before .before .component .ensures, c .before .before .before .before .before .before .before .c .given .1, number, ← c .before .before .before .before .huc-part .ensures .same-bytes) (c .before .before .copy-out .ensures)
+    let found = c .before .before .before .before .huc-located .ensures in
+    rw (← c .before .before .before .before .before .before .before .before .component .ensures, c .before .before .before .before .before .before .c .given .1, located-code _ _ _ found, ← located-span _ _ (huc-lies _ _) _ _ found)
+    (c .before .before .copy-part .ensures)
 
 pub guc-huc-copy-spec : {M : Type 1} → statement M
-guc-huc-copy-spec = tie.close (tie.spec (λ c κs. search needs) (λ c. search needs) (λ c. search needs) (λ c κs. search needs) (λ c κs. search needs) (λ c κs. search needs) returns (λ c. search needs) returns-2)
+guc-huc-copy-spec = tie.close (tie.spec (λ c κs. search needs) (λ c. search needs) (λ c. search needs) (λ c κs. search needs) copy-part-requires returns (λ c. search needs) returns-2)

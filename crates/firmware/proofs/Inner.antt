@@ -1,0 +1,61 @@
+-- The image in `huc_fw`: a location in the part is one in the directory's blob. Assumes nothing.
+use Prim.Native.Nat.{ℕ, _+_, _-_, _≤_}
+use mathlib.Core.Path.{_≡_, refl, sym, ap, _∙_}
+use mathlib.Core.Bool.{Bool, true, false, not, cond}
+use mathlib.Core.List.{List}
+use native.Mathlib.Omega.{arith}
+use lib.ListN.{length}
+use lib.Dec.{eqb}
+use borrow.Author.Tests.{eq-eqb, ne-eqb}
+use Rattle.firmware.specs.Bytes.{Span, span, nowhere, bytes, placed}
+use Rattle.firmware.specs.Css
+use Rattle.firmware.specs.Cpd
+use Rattle.firmware.specs.Inside.{hucName, partNamed, hucBlob, hucNumber, hucTruncated, hucPlace, hucLocated, within}
+use Rattle.firmware.specs.Private.{outer}
+use Rattle.firmware.specs.declared.bytes.Located.{Located}
+use Rattle.firmware.specs.declared.css.Component.{Component}
+use Rattle.firmware.proofs.Lies.{cpd-lies, located-span, shown-beyond}
+
+-- a place in the image, told by the code from where it starts, is the one that is shown
+chosen : (at n : ℕ) (t s : Bool) (p : Span) → (s ≡ true → 128 ≤ p .from) → outer at (placed n t (cond s p nowhere)) ≡ placed n t (cond s (within at p) nowhere)
+unfolding outer
+chosen at n t true p h =
+    let l : 128 ≤ p .from = h refl in
+    let away : eqb (p .from) 0 ≡ false = ne-eqb (p .from) 0 (λ e. absurd (omega arith)) in
+    let d : at + p .to - (at + p .from) ≡ p .to - p .from = omega arith in
+    simp (away, d)
+chosen at n t false p h = refl
+
+outer-located : (at : ℕ) (which : Component) (i : List ℕ) → outer at (Css.located which i) ≡ placed (Css.number i) (Css.truncated i) (cond (Css.shown which i) (within at (Css.laid which (Css.sizes i))) nowhere)
+unfolding Css.place
+outer-located at which i = chosen at (Css.number i) (Css.truncated i) (Css.shown which i) (Css.laid which (Css.sizes i)) (λ e. shown-beyond i which e .after)
+
+-- a name that is refused is nowhere
+entry-nowhere : (b : List ℕ) (i : ℕ) → eqb (Cpd.entryNumber b i) 0 ≡ false → Cpd.entryPlace b i ≡ nowhere
+unfolding Cpd.entryPlace
+entry-nowhere b i e = rw e
+
+by-name : (b : List ℕ) (i : ℕ) (t : Bool) → eqb (cond t 14 (Cpd.entryNumber b i)) 0 ≡ false → cond t nowhere (Cpd.entryPlace b i) ≡ nowhere
+by-name b i true e = refl
+by-name b i false e = entry-nowhere b i e
+
+-- the bytes of a part that is found
+pub found-bytes : (b name : List ℕ) {f : Located} → f ≡ Cpd.located b name → bytes b (span (f .start) (f .start + f .len)) ≡ partNamed b name
+found-bytes b name e = ap (bytes b) (located-span (length b) (Cpd.place b name) (cpd-lies b name) (Cpd.number b name) false e)
+
+-- what is found under `huc_fw`
+module _ (b : List ℕ) (which : Component) {f : Located} (e : f ≡ Cpd.located b hucName) where
+  pub huc-refused : (f .code ≡ 0 → ⊥) → f ≡ hucLocated which b
+  unfolding Cpd.number Cpd.place hucNumber hucTruncated hucPlace
+  huc-refused z =
+      let number : eqb (Cpd.number b hucName) 0 ≡ false = ne-eqb (Cpd.number b hucName) 0 (λ q. z (rw e q)) in
+      let place : Cpd.place b hucName ≡ nowhere = by-name b (Cpd.firstEntry b hucName) (not (Cpd.isName hucName)) number in
+      e ∙ simp (number, place)
+
+  pub huc-found : {l : Located} → f .code ≡ 0 → l ≡ Css.located which (bytes b (span (f .start) (f .start + f .len))) → outer (f .start) l ≡ hucLocated which b
+  unfolding hucNumber hucTruncated hucPlace
+  huc-found {l} z q =
+      let number : eqb (Cpd.number b hucName) 0 ≡ true = eq-eqb (Cpd.number b hucName) 0 (sym (ap (λ (x : Located). x .code) e) ∙ z) in
+      let inner : l ≡ Css.located which (hucBlob b) = rw (found-bytes b hucName e) at q in
+      let starts : f .start ≡ Cpd.place b hucName .from = ap (λ (x : Located). x .start) e in
+      rw (inner, starts) (outer-located (Cpd.place b hucName .from) which (hucBlob b) ∙ simp number)

@@ -1,0 +1,61 @@
+-- A name and its key, and the first four bytes of a name compared as a dword. Assumes nothing.
+use Prim.Native.Nat.{ℕ, _+_, _*_, _<_}
+use mathlib.Core.Path.{_≡_, refl, ap}
+use mathlib.Core.Bool.{Bool, true, false}
+use mathlib.Core.List.{List}
+use native.Mathlib.Omega.{arith}
+use lib.ListN.{getD}
+use lib.Dec.{eqb}
+use borrow.Author.Tests.{eq-eqb, eqb-true}
+use Rattle.firmware.specs.Bytes.{dwordAt}
+use Rattle.firmware.specs.Cpd
+use Rattle.firmware.specs.Private.{Keyed, walked}
+use Rattle.firmware.proofs.Search.{all-holds, all-same, first-same}
+
+-- a walk for a key is the walk for its name
+pub keyed-walked : (b name key : List ℕ) (start count : ℕ) → Keyed name key → walked b key start count ≡ walked b name start count
+unfolding walked
+keyed-walked b name key start count h =
+    first-same _ _ 0 count (λ i. all-same _ _ 12 (λ j l. ap (eqb (getD b (start + 24 * i + j) 0)) (h j l)))
+
+-- bytes that agree one after another are one dword
+module _ (b key : List ℕ) (at : ℕ) where
+  byte-same : (j : ℕ) → j < 12 → Cpd.agrees b key at ≡ true → getD b (at + j) 0 ≡ getD key j 0
+  byte-same j l e = eqb-true (getD b (at + j) 0) (getD key j 0) (all-holds (λ k. eqb (getD b (at + k) 0) (getD key k 0)) 12 j l e)
+
+  dword-same : Cpd.agrees b key at ≡ true → dwordAt b at ≡ dwordAt key 0
+  unfolding dwordAt
+  dword-same e =
+      let z : at + 0 ≡ at = omega arith in
+      let first : getD b at 0 ≡ getD key 0 0 = rw z at (byte-same 0 (omega arith) e) in
+      rw (first, byte-same 1 (omega arith) e, byte-same 2 (omega arith) e, byte-same 3 (omega arith) e)
+
+  by-test : (t : Bool) → Cpd.agrees b key at ≡ t → (dwordAt b at ≡ dwordAt key 0 → ⊥) → Cpd.agrees b key at ≡ false
+  by-test true e h = absurd (h (dword-same e))
+  by-test false e h = e
+
+  pub front-differs : (dwordAt b at ≡ dwordAt key 0 → ⊥) → Cpd.agrees b key at ≡ false
+  front-differs = by-test (Cpd.agrees b key at) refl
+
+-- bytes of equal dwords agree
+abbrev number : ℕ → ℕ → ℕ → ℕ → ℕ
+number a b c d = a + 0x100 * b + 0x10000 * c + 0x1000000 * d
+
+module _ (a b c d w x y z : ℕ) (ha : a < 256) (hb : b < 256) (hc : c < 256) (hd : d < 256) where
+  module _ (hw : w < 256) (hx : x < 256) (hy : y < 256) (hz : z < 256) (e : number a b c d ≡ number w x y z) where
+    four : (a ≡ w) × (b ≡ x) × (c ≡ y) × (d ≡ z)
+    four = (omega arith, omega arith, omega arith, omega arith)
+
+module _ (b key : List ℕ) (at : ℕ) (hb : (j : ℕ) → getD b j 0 < 256) (hk : (j : ℕ) → getD key j 0 < 256) where
+  pub front-agrees : dwordAt b at ≡ dwordAt key 0 → Cpd.all (λ j. eqb (getD b (at + j) 0) (getD key j 0)) 4 ≡ true
+  unfolding dwordAt Cpd.all
+  front-agrees e =
+      let z : at + 0 ≡ at = omega arith in
+      let f = four _ _ _ _ _ _ _ _ (hb at) (hb (at + 1)) (hb (at + 2)) (hb (at + 3)) (hk 0) (hk 1) (hk 2) (hk 3) e in
+      simp (
+        z,
+        eq-eqb (getD b at 0) (getD key 0 0) (f .0),
+        eq-eqb (getD b (at + 1) 0) (getD key 1 0) (f .1),
+        eq-eqb (getD b (at + 2) 0) (getD key 2 0) (f .2),
+        eq-eqb (getD b (at + 3) 0) (getD key 3 0) (f .3),
+      )
