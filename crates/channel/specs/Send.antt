@@ -7,8 +7,7 @@ use lib.ListN.{length, getD, set, replicate}
 use lib.Dec.{eqb, leb, ltb}
 use Rattle.ring.specs.Ring.{TAIL}
 use Rattle.channel.specs.State.{State, idleAt, idle, activeSend}
-use Rattle.ring.specs.Numbers.{need, entry, marked}
-use Rattle.ring.specs.AtOnce.{numberAt}
+use Rattle.ring.specs.Numbers.{need, entry, marked, numberAt}
 use Rattle.channel.specs.Outcome.{Outcome, refused}
 
 -- 'look (judge the message, read STATUS, HEAD, TAIL)': 1 to 4, then what the descriptor says

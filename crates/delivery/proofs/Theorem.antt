@@ -18,7 +18,7 @@ use Rattle.ring.specs.Ring.{allowed, stored, window}
 use Rattle.channel.specs.Send
 use Rattle.ring.proofs.Chains.{cases}
 use Rattle.ring.proofs.Ring.{apart, window-mod}
-use Rattle.delivery.specs.Demand.{Call, Demand3, Serial, StoresAt, Unreleased, answers, cut, ended, endedBy, held, midway, movedOf, PlainStoresAt, published, publishedBy, received, receivedBy, result, unread, wholes}
+use Rattle.delivery.specs.Demand.{Call, Demand3, Serial, StoresAt, Unreleased, answers, cut, ended, endedBy, held, midway, published, publishedBy, received, receivedBy, result, unread, wholes}
 use Rattle.delivery.specs.Operations.{Channel, Op, Seen, after, end, plainAnswer, plainEnd, plainRun, plainSeen, receiveLook, receiveMove, receivePublish, receiveWhole, run, sendLook, sendMove, sendPublish, sendWhole}
 use Rattle.delivery.specs.Plain.{Answer, Plain, Receiving, Sending, descriptor, fresh, notSending, sending}
 use Rattle.delivery.specs.Plain
@@ -145,7 +145,7 @@ module _ (n : ℕ) (b : List ℕ) (q : List (List ℕ)) (P R : ℕ) (r : Receivi
   whole-safe (sending k₀ m₀) m g e w k h f = let z : _≡_ {A = ℕ} 3 0 = e in omega arith
 
   -- the place of a store in the plain channel's words
-  move-place : (s : Sending) → Inv (plain n b q P R s r) → j ≡ Send.place (sendState n P s) b → j ≡ (P + movedOf s) % n
+  move-place : (s : Sending) → Inv (plain n b q P R s r) → j ≡ Send.place (sendState n P s) b → j ≡ (P + sendState n P s .moved) % n
   move-place notSending g f = rw (g .size) at f ∙ mod-add-mod P n 0
   move-place (sending k m) g f = rw (g .size) at f ∙ mod-add-mod P n k
 
@@ -162,30 +162,30 @@ module _ (n : ℕ) (b : List ℕ) (q : List (List ℕ)) (P R : ℕ) (r : Receivi
       (λ t. let z : _≡_ {A = ℕ} 4 0 = rw t at e in absurd (omega arith))
   whole-place (sending k₀ m₀) m g e k h f = let z : _≡_ {A = ℕ} 3 0 = e in absurd (omega arith)
 
-store-place : (p : Plain) → Inv p → (o : Op) (j : ℕ) → StoresAt (channelOf p) o j → PlainStoresAt p o j
-store-place p g (sendLook m) j s = s
-store-place p g sendMove j s = move-place (p .n) (p .buf) (p .queue) (p .P) (p .R) (p .receive) j (p .send) g (s .1)
-store-place p g sendPublish j s = s
-store-place p g (sendWhole m) j s =
+store-place : (p : Plain) → Inv p → (o : Op) (k j : ℕ) → StoresAt (channelOf p) o k j → j ≡ (p .P + k) % p .n
+store-place p g (sendLook m) k j s = absurd s
+store-place p g sendMove k j s = rw (s .1) (move-place (p .n) (p .buf) (p .queue) (p .P) (p .R) (p .receive) j (p .send) g (s .2))
+store-place p g sendPublish k j s = absurd s
+store-place p g (sendWhole m) k j s =
     let c = sym (ap (λ (x : Seen). x .code) (step-sim p g (sendLook m) .same)) ∙ s .0 in
-    (s .1, s .2, whole-place (p .n) (p .buf) (p .queue) (p .P) (p .R) (p .receive) j (p .send) m g c (s .1) (s .2) (s .3))
-store-place p g receiveLook j s = s
-store-place p g receiveMove j s = s
-store-place p g (receivePublish o) j s = s
-store-place p g (receiveWhole o) j s = s
+    whole-place (p .n) (p .buf) (p .queue) (p .P) (p .R) (p .receive) j (p .send) m g c k (s .1) (s .2)
+store-place p g receiveLook k j s = absurd s
+store-place p g receiveMove k j s = absurd s
+store-place p g (receivePublish o) k j s = absurd s
+store-place p g (receiveWhole o) k j s = absurd s
 
-no-store : (p : Plain) → Inv p → (o : Op) (j : ℕ) → Unreleased p j → StoresAt (channelOf p) o j → ⊥
+no-store : (p : Plain) → Inv p → (o : Op) (j : ℕ) → Unreleased p j → (k : ℕ) → StoresAt (channelOf p) o k j → ⊥
 unfolding Plain.sendMoveBy
-no-store p g (sendLook m) j w s = s
-no-store p g sendMove j w s =
-    move-safe (p .n) (p .buf) (p .queue) (p .P) (p .R) (p .receive) j (p .send) g (sym (ap (λ (x : Seen). x .code) (step-sim p g sendMove .same)) ∙ s .0) w (s .1)
-no-store p g sendPublish j w s = s
-no-store p g (sendWhole m) j w s =
-    whole-safe (p .n) (p .buf) (p .queue) (p .P) (p .R) (p .receive) j (p .send) m g (sym (ap (λ (x : Seen). x .code) (step-sim p g (sendLook m) .same)) ∙ s .0) w (s .1) (s .2) (s .3)
-no-store p g receiveLook j w s = s
-no-store p g receiveMove j w s = s
-no-store p g (receivePublish o) j w s = s
-no-store p g (receiveWhole o) j w s = s
+no-store p g (sendLook m) j w k s = s
+no-store p g sendMove j w k s =
+    move-safe (p .n) (p .buf) (p .queue) (p .P) (p .R) (p .receive) j (p .send) g (sym (ap (λ (x : Seen). x .code) (step-sim p g sendMove .same)) ∙ s .0) w (s .2)
+no-store p g sendPublish j w k s = s
+no-store p g (sendWhole m) j w k s =
+    whole-safe (p .n) (p .buf) (p .queue) (p .P) (p .R) (p .receive) j (p .send) m g (sym (ap (λ (x : Seen). x .code) (step-sim p g (sendLook m) .same)) ∙ s .0) w k (s .1) (s .2)
+no-store p g receiveLook j w k s = s
+no-store p g receiveMove j w k s = s
+no-store p g (receivePublish o) j w k s = s
+no-store p g (receiveWhole o) j w k s = s
 
 kept-dword : (p : Plain) → Inv p → (o : Op) (j : ℕ) → Unreleased p j → getD (after (channelOf p) o .buf) j 0 ≡ getD (p .buf) j 0
 kept-dword p g o j w = ap (λ (y : Channel). getD (y .buf) j 0) (step-sim p g o .ends) ∙ facts p g o .keeps j w
@@ -208,16 +208,17 @@ module _ (b : List ℕ) (a : allowed (length b) ≡ true) (list : List Op) where
 
   stores₀ :
       (pre : List Op) (o : Op) (j : ℕ) → Unreleased (plainEnd (fresh (length b) b) pre) j
-      → (StoresAt (end (channelOf (fresh (length b) b)) pre) o j → ⊥) × (getD (after (end (channelOf (fresh (length b) b)) pre) o .buf) j 0 ≡ getD (end (channelOf (fresh (length b) b)) pre .buf) j 0)
+      → ((k : ℕ) → StoresAt (end (channelOf (fresh (length b) b)) pre) o k j → ⊥) × (getD (after (end (channelOf (fresh (length b) b)) pre) o .buf) j 0 ≡ getD (end (channelOf (fresh (length b) b)) pre .buf) j 0)
   stores₀ pre o j w =
       let p : Plain = plainEnd (fresh (length b) b) pre in
       let g : Inv p = end-good (fresh (length b) b) g₀ pre in
       rw (end-sim (fresh (length b) b) g₀ pre) (no-store p g o j w, kept-dword p g o j w)
 
   places₀ :
-      (pre : List Op) (o : Op) (j : ℕ) → StoresAt (end (channelOf (fresh (length b) b)) pre) o j → PlainStoresAt (plainEnd (fresh (length b) b) pre) o j
-  places₀ pre o j =
-      rw (end-sim (fresh (length b) b) g₀ pre) (store-place (plainEnd (fresh (length b) b) pre) (end-good (fresh (length b) b) g₀ pre) o j)
+      (pre : List Op) (o : Op) (k j : ℕ) → StoresAt (end (channelOf (fresh (length b) b)) pre) o k j
+      → j ≡ (plainEnd (fresh (length b) b) pre .P + k) % plainEnd (fresh (length b) b) pre .n
+  places₀ pre o k j =
+      rw (end-sim (fresh (length b) b) g₀ pre) (store-place (plainEnd (fresh (length b) b) pre) (end-good (fresh (length b) b) g₀ pre) o k j)
 
   serial₀ :
       plainEnd (fresh (length b) b) list .send ≡ notSending → (any : ℕ → List ℕ) → ((i : ℕ) → length (any i) ≡ 256)

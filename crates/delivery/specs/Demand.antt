@@ -11,7 +11,7 @@ use Rattle.ring.specs.Ring.{allowed, head, tail, used, window}
 use Rattle.channel.specs.Outcome.{Outcome}
 use Rattle.channel.specs.Opening.{opening}
 use Rattle.channel.specs.Send
-use Rattle.delivery.specs.Plain.{Plain, Sending, notSending, sending, notReceiving, fresh, descriptor}
+use Rattle.delivery.specs.Plain.{Plain, notSending, notReceiving, fresh, descriptor}
 use Rattle.delivery.specs.Operations.{Op, sendLook, sendMove, sendPublish, sendWhole, receiveLook, receiveMove, receivePublish, receiveWhole, Seen, Channel, begun, outcome, after, run, end, plainRun, plainEnd}
 
 -- ---- messages published, received and unread
@@ -82,33 +82,18 @@ pub record Unreleased (p : Plain) (j : ℕ) : Type 0 where
 abbrev pub midway : Channel → List ℕ → ℕ → Outcome
 midway x m k = Send.moves k (Send.look (x .sender) m (x .desc) (x .buf))
 
--- place j is where the operation stores a dword: 'the place (P + k) mod N of a send's store, in whole calls too'. A whole send stores where its
--- look is accepted, dword k after k others.
-abbrev pub StoresAt : Channel → Op → ℕ → Type 0
-StoresAt x (sendLook m) j = ⊥
-StoresAt x sendMove j = (outcome x sendMove .code ≡ 0) × (j ≡ Send.place (x .sender) (x .buf))
-StoresAt x sendPublish j = ⊥
-StoresAt x (sendWhole m) j =
-    (outcome x (sendLook m) .code ≡ 0) × (k : ℕ) × (k < length m) × (j ≡ Send.place (midway x m k .next) (midway x m k .buf))
-StoresAt x receiveLook j = ⊥
-StoresAt x receiveMove j = ⊥
-StoresAt x (receivePublish o) j = ⊥
-StoresAt x (receiveWhole o) j = ⊥
-
--- and this is that place in the plain channel's words: '(P + k) mod N', k the dwords that its send has moved
-abbrev pub movedOf : Sending → ℕ
-movedOf notSending = 0
-movedOf (sending k m) = k
-
-abbrev pub PlainStoresAt : Plain → Op → ℕ → Type 0
-PlainStoresAt p (sendLook m) j = ⊥
-PlainStoresAt p sendMove j = j ≡ (p .P + movedOf (p .send)) % p .n
-PlainStoresAt p sendPublish j = ⊥
-PlainStoresAt p (sendWhole m) j = (k : ℕ) × (k < length m) × (j ≡ (p .P + k) % p .n)
-PlainStoresAt p receiveLook j = ⊥
-PlainStoresAt p receiveMove j = ⊥
-PlainStoresAt p (receivePublish o) j = ⊥
-PlainStoresAt p (receiveWhole o) j = ⊥
+-- place j is where the operation stores dword k of its message, by the channel's own words: a move the next dword; a whole send, where its look is
+-- accepted, dword k after k others
+abbrev pub StoresAt : Channel → Op → ℕ → ℕ → Type 0
+StoresAt x (sendLook m) k j = ⊥
+StoresAt x sendMove k j = (outcome x sendMove .code ≡ 0) × (k ≡ x .sender .moved) × (j ≡ Send.place (x .sender) (x .buf))
+StoresAt x sendPublish k j = ⊥
+StoresAt x (sendWhole m) k j =
+    (outcome x (sendLook m) .code ≡ 0) × (k < length m) × (j ≡ Send.place (midway x m k .next) (midway x m k .buf))
+StoresAt x receiveLook k j = ⊥
+StoresAt x receiveMove k j = ⊥
+StoresAt x (receivePublish o) k j = ⊥
+StoresAt x (receiveWhole o) k j = ⊥
 
 -- ---- calls that ended
 
@@ -175,12 +160,13 @@ pub record Demand (d b : List ℕ) (list : List Op) : Type 0 where
   -- and changes the value of no such dword. (What is unreleased just before o is that of the list cut off there: the demand holds of every prefix.)
   pub stores :
       (before later : List Op) (o : Op) → list ≡ before ++ o ∷ later → (j : ℕ) → Unreleased (plainEnd (fresh (length b) b) before) j
-      → (StoresAt (end (begun d b) before) o j → ⊥)
+      → ((k : ℕ) → StoresAt (end (begun d b) before) o k j → ⊥)
       × (getD (after (end (begun d b) before) o .buf) j 0 ≡ getD (end (begun d b) before .buf) j 0)
-  -- the place of each store is '(P + k) mod N'
+  -- 'the place (P + k) mod N of a send's store, in whole calls too'
   pub places :
-      (before later : List Op) (o : Op) → list ≡ before ++ o ∷ later → (j : ℕ)
-      → StoresAt (end (begun d b) before) o j → PlainStoresAt (plainEnd (fresh (length b) b) before) o j
+      (before later : List Op) (o : Op) → list ≡ before ++ o ∷ later → (k j : ℕ)
+      → StoresAt (end (begun d b) before) o k j
+      → j ≡ (plainEnd (fresh (length b) b) before .P + k) % plainEnd (fresh (length b) b) before .n
   -- every answer, output, descriptor and buffer is the plain channel's, after each operation and at the end
   pub as-plain : run (begun d b) list ≡ plainRun (fresh (length b) b) list
   pub plain-desc : end (begun d b) list .desc ≡ descriptor (plainEnd (fresh (length b) b) list)

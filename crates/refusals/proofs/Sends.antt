@@ -6,8 +6,8 @@ use mathlib.Core.List.{List, []}
 use native.Mathlib.Omega.{arith}
 use lib.ListN.{length, getD, set}
 use lib.Dec.{eqb}
-use Rattle.ring.specs.AtOnce.{numberAt, sendBy}
-use Rattle.ring.specs.Numbers.{entry, found, marked, need, sendDecision, sendFound}
+use Rattle.ring.specs.AtOnce.{sendBy}
+use Rattle.ring.specs.Numbers.{entry, found, marked, need, numberAt, sendDecision, sendFound}
 use Rattle.ring.specs.Ring.{TAIL, stored}
 use Rattle.channel.specs.State.{State, idleAt}
 use Rattle.channel.specs.Send

@@ -9,7 +9,8 @@ use borrow.Author.Tests.{eqb-true, ltb-true, lt-ltb, le-ltb, le-leb, lt-leb, eq-
 use Rattle.message.specs.Header.{totalLength}
 use Rattle.message.proofs.Tests.{and-l, and-r}
 use Rattle.ring.specs.Ring.{used, past}
-use Rattle.ring.specs.Numbers.{need, found, pendingNumber, receiveFound}
+use Rattle.ring.specs.Numbers.{need, found, receiveFound}
+use Rattle.ring.specs.Private.{pendingNumber}
 use Rattle.ring.proofs.Chains.{cases, passed, passed-rest}
 
 module _ (n hd tl : ℕ) where

@@ -1,17 +1,19 @@
 -- What an accepted look of a send has. Assumes nothing.
 use Prim.Native.Nat.{ℕ, _-_, _≤_, _<_}
 use mathlib.Core.Path.{_≡_, refl}
-use mathlib.Core.Bool.{Bool, true}
-use mathlib.Core.List.{List}
+use mathlib.Core.Bool.{Bool, true, false, cond}
+use mathlib.Core.List.{List, []}
 use native.Mathlib.Omega.{arith}
-use lib.ListN.{length, getD}
-use lib.Dec.{leb}
-use borrow.Author.Tests.{leb-true}
+use lib.ListN.{length, getD, set}
+use lib.Dec.{eqb, leb}
+use borrow.Author.Tests.{leb-true, ne-eqb}
 use Rattle.message.specs.Header.{startsMessage, isMessage}
-use Rattle.ring.specs.AtOnce.{numberAt}
-use Rattle.ring.specs.Numbers.{found, need, sendFound, sendDecision}
-use Rattle.ring.specs.Ring.{free, head, status, tail, used}
-use Rattle.ring.proofs.Chains.{Entered, entered, entered-fits, entered-rest, passed, passed-rest}
+use Rattle.ring.specs.AtOnce.{ended, send, sendBy}
+use Rattle.ring.specs.Private.{PlacedBy}
+use Rattle.ring.specs.declared.sending.Ended.{Ended}
+use Rattle.ring.specs.Numbers.{found, marked, need, numberAt, sendFound, sendDecision}
+use Rattle.ring.specs.Ring.{TAIL, free, head, status, tail, used}
+use Rattle.ring.proofs.Chains.{Entered, cases, entered, entered-fits, entered-rest, passed, passed-rest}
 use Rattle.ring.proofs.Found.{found-rest, none-found}
 
 -- what an accepted look of a send has: for a state that fits, an own tail, and a ring of n dwords
@@ -56,3 +58,19 @@ module _ (fits : Bool) (own : ℕ) (m d : List ℕ) (n : ℕ) (e : numberAt fits
         below = omega (arith, f .same, f .tail);
         room = omega (arith, f .tail);
       }
+
+-- a whole send but for its end, and with it
+module _ (fits : Bool) (own : ℕ) (m d b : List ℕ) where
+  pub placed-refused : (c : ℕ) → c ≡ numberAt fits own m d (length b) → (c ≡ 0 → ⊥) → PlacedBy (record { code = c; len = 0; own = own }) (numberAt fits own m d (length b)) own m b b
+  placed-refused c e n =
+      let z : eqb c 0 ≡ false = ne-eqb c 0 n in
+      rw (← e) (record { code = refl; no-len = refl; own-tail = rw z; small = λ q. absurd (n q); ring = rw z })
+
+  pub whole-placed :
+      (r : Ended) (d′ b′ : List ℕ) → PlacedBy r (numberAt fits own m d (length b)) own m b b′
+      → d′ ≡ cond (eqb (r .code) 0) (set d TAIL (r .own)) (marked (r .code) d) → ended r d′ b′ [] ≡ send fits own m d b
+  unfolding sendBy
+  whole-placed r d′ b′ p g =
+      cases (eqb (numberAt fits own m d (length b)) 0)
+      (λ z. let o = rw z at (p .own-tail) in rw (rw (p .code, z) at g, p .code, p .no-len, rw z at (p .ring), z, o))
+      (λ z. let o = rw z at (p .own-tail) in rw (rw (p .code, z) at g, p .code, p .no-len, rw z at (p .ring), z, o))

@@ -1,18 +1,20 @@
 -- What the numbers of a receive say: where they accept, and the three answers of a whole receive at once. Assumes nothing.
 use Prim.Native.Nat.{ℕ, suc, _+_, _-_, _%_, _≤_, _<_}
 use mathlib.Core.Path.{_≡_, refl, sym, ap, _∙_}
-use mathlib.Core.Bool.{Bool, true, false, not, _||_}
+use mathlib.Core.Bool.{Bool, true, false, not, _||_, cond}
 use mathlib.Core.List.{List, _∷_, _++_}
 use native.Mathlib.Omega.{arith}
 use native.Mathlib.Nat.{mod-lt, mod-eq-of-lt}
 use lib.ListN.{length, getD, drop, set}
 use lib.Dec.{eqb, leb}
-use borrow.Author.Tests.{leb-true, not-true}
+use borrow.Author.Tests.{eqb-true, leb-true, ne-eqb, not-true}
 use Rattle.message.specs.Header.{totalLength, wellFormed}
-use Rattle.ring.specs.AtOnce.{messageAt, receive, receiveBy, receiveNumber}
-use Rattle.ring.specs.Numbers.{entry, found, foundWith, marked, need, pendingNumber, receiveFound, takeNumber}
+use Rattle.ring.specs.AtOnce.{ended, messageAt, receive, receiveBy, receiveNumber}
+use Rattle.ring.specs.Private.{TakenBy}
+use Rattle.ring.specs.declared.sending.Ended.{Ended}
+use Rattle.ring.specs.Numbers.{entry, found, foundWith, marked, need, receiveFound, takeNumber}
 use Rattle.ring.specs.Ring.{HEAD, allowed, head, status, tail, used, window}
-use Rattle.ring.proofs.Chains.{Entered, cases, entered, entered-fits, entered-rest, passed, passed-rest}
+use Rattle.ring.proofs.Chains.{Entered, cases, entered, entered-fits, entered-rest, passed, passed-rest, true-false}
 use Rattle.ring.proofs.Found.{found-rest, none-found}
 use Rattle.ring.proofs.Ring.{window-at}
 
@@ -133,40 +135,53 @@ laid-message b n own l h s o below l₂ eh es =
     let t : s ≡ getD b ((own + 1) % n) 0 = es ∙ window-at b n own l 1 (omega arith) in
     rw (window-first-two b n own l l₂, z, ← eh, ← t)
 
--- the three answers of a whole receive at once
+-- the three answers of a whole receive but for its end
 module _ (fits : Bool) (own : ℕ) (o d b : List ℕ) where
-  pub receive-refused :
-      (c : ℕ) → takeNumber fits own (length o) d (length b) (getD b own 0) ≡ c → eqb c 0 ≡ false
-      → receive fits own o d b ≡ record { code = c; len = 0; own = own; desc = marked c d; buf = b; out = o }
-  unfolding receiveNumber receiveBy
-  receive-refused c e z =
+  pub taken-refused : (c : ℕ) → takeNumber fits own (length o) d (length b) (getD b own 0) ≡ c → (c ≡ 0 → ⊥) → TakenBy (record { code = c; len = 0; own = own }) (takeNumber fits own (length o) d (length b) (getD b own 0)) own b o o
+  unfolding receiveNumber
+  taken-refused c e n =
+      let z : eqb c 0 ≡ false = ne-eqb c 0 n in
       let t : eqb c 13 ≡ false = ap (λ (x : ℕ). eqb x 13) (sym e) ∙ take-not-13 fits own (length o) d (length b) (getD b own 0) in
-      rw (e, z, z, t)
+      record { code = rw (e, z); len = rw z; own-head = rw (z, t); small = λ q. absurd (n (sym e ∙ q)); output = rw z }
 
-  module _ (h s l : ℕ) (eh : h ≡ getD b own 0) (el : l ≡ totalLength h) (es : s ≡ getD (window b (length b) own l) 1 0) (e : takeNumber fits own (length o) d (length b) h ≡ 0) where
+  module _ (h s l : ℕ) (eh : h ≡ getD b own 0) (el : l ≡ totalLength h) (es : s ≡ getD (window b (length b) own l) 1 0) (e : takeNumber fits own (length o) d (length b) (getD b own 0) ≡ 0) where
     formed-same : wellFormed (getD b own 0) (getD (messageAt own b) 1 0) ≡ wellFormed h s
     formed-same = rw (es, el, eh)
 
-    taken-same : takeNumber fits own (length o) d (length b) (getD b own 0) ≡ 0
-    taken-same = rw (← eh) e
+    length-same : l ≡ totalLength (getD b own 0)
+    length-same = rw (el, eh)
 
-    pub receive-formed :
-        wellFormed h s ≡ true
-        → receive fits own o d b
-        ≡ record {
-          code = 0;
-          len = l;
-          own = (own + l) % length b;
-          desc = set d HEAD ((own + l) % length b);
-          buf = b;
-          out = window b (length b) own l ++ drop l o;
-        }
-    unfolding receiveNumber receiveBy need
-    receive-formed f = rw (taken-same, formed-same, f, el, eh)
+    pub taken-formed :
+        (x : ℕ) (after : List ℕ) → wellFormed h s ≡ true → x ≡ (own + l) % length b → x < 16384 → after ≡ window b (length b) own l ++ drop l o
+        → TakenBy (record { code = 0; len = l; own = x }) (takeNumber fits own (length o) d (length b) (getD b own 0)) own b o after
+    unfolding receiveNumber need
+    taken-formed x after f p q w =
+        record { code = rw (e, formed-same, f); len = length-same; own-head = rw (← length-same) p; small = λ _. q; output = rw (← length-same) w }
 
-    pub receive-malformed :
-        wellFormed h s ≡ false
-        → receive fits own o d b
-        ≡ record { code = 13; len = 0; own = (own + l) % length b; desc = set d HEAD ((own + l) % length b); buf = b; out = o }
-    unfolding receiveNumber receiveBy need
-    receive-malformed f = rw (taken-same, formed-same, f, el, eh)
+    pub taken-malformed :
+        (x : ℕ) → wellFormed h s ≡ false → x ≡ (own + l) % length b → x < 16384
+        → TakenBy (record { code = 13; len = 0; own = x }) (takeNumber fits own (length o) d (length b) (getD b own 0)) own b o o
+    unfolding receiveNumber need
+    taken-malformed x f p q =
+        record { code = rw (e, formed-same, f); len = refl; own-head = rw (← length-same) p; small = λ _. q; output = refl }
+
+  -- 0 and 13 come after 1 to 11 have passed
+  pub taken-zero : (c : ℕ) → c ≡ receiveNumber (takeNumber fits own (length o) d (length b) (getD b own 0)) own b → (eqb c 0 || eqb c 13) ≡ true → takeNumber fits own (length o) d (length b) (getD b own 0) ≡ 0
+  unfolding receiveNumber
+  taken-zero c e z =
+      let n : ℕ = takeNumber fits own (length o) d (length b) (getD b own 0) in
+      cases (eqb n 0) (λ t. eqb-true n 0 t)
+      (λ t.
+      let q : c ≡ n = e ∙ rw t in
+      let w : eqb n 13 ≡ false = take-not-13 fits own (length o) d (length b) (getD b own 0) in
+      true-false (sym z ∙ rw (q, t, w)))
+
+  -- and with its end, the whole receive at once
+  pub whole-taken :
+      (r : Ended) (d′ o′ : List ℕ) → TakenBy r (takeNumber fits own (length o) d (length b) (getD b own 0)) own b o o′
+      → d′ ≡ cond (eqb (r .code) 0 || eqb (r .code) 13) (set d HEAD (r .own)) (marked (r .code) d) → ended r d′ b o′ ≡ receive fits own o d b
+  unfolding receiveBy
+  whole-taken r d′ o′ t g =
+      cases (eqb (r .code) 0 || eqb (r .code) 13)
+      (λ z. let p = rw z at (t .own-head) in rw (← t .code, z, t .len, t .output, rw z at g, p))
+      (λ z. let p = rw z at (t .own-head) in rw (← t .code, z, t .len, t .output, rw z at g, p))

@@ -7,7 +7,7 @@ use lib.ListN.{length, getD, drop, set}
 use lib.Dec.{eqb}
 use Rattle.message.specs.Header.{totalLength, wellFormed}
 use Rattle.ring.specs.Ring.{HEAD, TAIL, window, stored}
-use Rattle.ring.specs.Numbers.{need, marked, sendDecision, takeNumber}
+use Rattle.ring.specs.Numbers.{need, marked, numberAt, takeNumber}
 use Rattle.ring.specs.declared.receiving.Seen.{Seen}
 use Rattle.ring.specs.declared.sending.Ended.{Ended}
 
@@ -23,10 +23,6 @@ pub record AtOnce : Type 0 where
 -- in the answer struct of a whole call, with the lent memory as the call leaves it
 abbrev pub ended : Ended → List ℕ → List ℕ → List ℕ → AtOnce
 ended r d b o = record { code = r .code; len = r .len; own = r .own; desc = d; buf = b; out = o }
-
--- the number of a send's look at a message
-abbrev pub numberAt : Bool → ℕ → List ℕ → List ℕ → ℕ → ℕ
-numberAt fits own m d n = sendDecision fits own (length m) (getD m 0 0) (getD m 1 0) d n
 
 -- a whole send: where the look accepts, the message lies from the own tail on, and TAIL past it
 unfoldable pub sendBy : ℕ → ℕ → List ℕ → List ℕ → List ℕ → AtOnce

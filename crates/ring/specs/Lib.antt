@@ -1,3 +1,4 @@
 pub mod Ring
 pub mod Numbers
 pub mod AtOnce
+pub mod Private

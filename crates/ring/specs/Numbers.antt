@@ -3,10 +3,9 @@
 use Prim.Native.Nat.{ℕ}
 use mathlib.Core.Bool.{Bool, true, false, not, _&&_, _||_, cond}
 use mathlib.Core.List.{List}
-use lib.ListN.{length, set}
+use lib.ListN.{length, getD, set}
 use lib.Dec.{eqb, leb, ltb}
 use Rattle.message.specs.Header.{totalLength, startsMessage}
-use Rattle.ring.specs.declared.numbers.InUse.{InUse}
 use Rattle.ring.specs.Ring.{allowed, used, free, STATUS, head, tail, status, good, overflow, underflow, mismatch}
 
 -- the refusal's number where the test fails, else what the rest of the chain says
@@ -34,19 +33,15 @@ receiveFound n own status hd tl header =
     found n own hd status hd tl
     (need (eqb (used n hd tl) 0 || leb (totalLength header) (used n hd tl)) 9 (need (not (eqb (used n hd tl) 0)) 11 0))
 
--- what the descriptor alone says of these, before the header is read ('if not empty, the header'): all but 9
-unfoldable pub pendingNumber : ℕ → ℕ → ℕ → ℕ → ℕ → ℕ
-pendingNumber n own status hd tl = found n own hd status hd tl (need (not (eqb (used n hd tl) 0)) 11 0)
-
--- and the dwords in use where that is 0
-abbrev pub pendingBy : ℕ → ℕ → ℕ → ℕ → InUse
-pendingBy c n hd tl = record { code = c; used = cond (eqb c 0) (used n hd tl) 0 }
-
 -- the number of a send's look: 1, 2 and 3, then 4 'message to send .. is malformed', then what it finds. With whether the state fits,
 -- the own tail, the message's length and first two dwords, the descriptor and N
 unfoldable pub sendDecision : Bool → ℕ → ℕ → ℕ → ℕ → List ℕ → ℕ → ℕ
 sendDecision fits own len header word d n =
     entry (length d) n fits (need (startsMessage len header word) 4 (sendFound n own len (status d) (head d) (tail d)))
+
+-- the number of a send's look at this message
+abbrev pub numberAt : Bool → ℕ → List ℕ → List ℕ → ℕ → ℕ
+numberAt fits own m d n = sendDecision fits own (length m) (getD m 0 0) (getD m 1 0) d n
 
 -- what a receive's look finds at an own head, with the header that lies there
 abbrev pub foundWith : ℕ → List ℕ → ℕ → ℕ → ℕ

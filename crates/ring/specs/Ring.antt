@@ -59,10 +59,11 @@ unfoldable pub stored : List ℕ → ℕ → ℕ → List ℕ → List ℕ
 stored b n i [] = b
 stored b n i (x ∷ xs) = stored (set b (i % n) x) n (suc i) xs
 
--- dwords laid at the front of others, 'the rest .. unchanged'; where there is no room for them, nothing is laid
+-- ours: dwords laid at the front of others, the rest unchanged; where there is no room for them, nothing is laid
 unfoldable pub laid : List ℕ → List ℕ → List ℕ
 laid xs out = cond (leb (length xs) (length out)) (xs ++ drop (length xs) out) out
 
--- '(own tail + k) mod N', '(own head + L) mod N': the offset k dwords past an own offset of a ring of n; 0 where there is no such ring
+-- ours, for code that asks nothing of its caller: the offset k dwords past an own offset of a ring of n, which is (own + k) mod n; 0 where own is no offset of
+-- the ring, k exceeds it, or no ring is so long
 unfoldable pub past : ℕ → ℕ → ℕ → ℕ
 past n own k = cond (ltb own n && leb k n && leb n 16384) ((own + k) % n) 0

@@ -39,14 +39,14 @@ pub fn mark(desc: &mut [u32], code: u32)
     }
 }
 
-// Publishes the tail that storing a message returned. It is lent no ring: what it publishes is in the ring already.
+// Publishes a tail. It is lent no ring: who publishes has stored.
 pub fn publish_tail(desc: &mut [u32], tail: u32)
     ensures { λ _. ⌜ now (desc .exit) ≡ set (now (desc .entry)) TAIL tail ⌝ }
 {
     put(desc, TAIL, tail);
 }
 
-// Publishes the head that laying a message returned. It is lent neither ring nor output: what it releases has been read.
+// Publishes a head. It is lent neither ring nor output: who publishes has read, or passes over a message that was refused.
 pub fn publish_head(desc: &mut [u32], head: u32)
     ensures { λ _. ⌜ now (desc .exit) ≡ set (now (desc .entry)) HEAD head ⌝ }
 {

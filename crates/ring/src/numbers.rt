@@ -2,7 +2,8 @@
 ghost use mathlib.Core.Path.{_≡_};
 ghost use Prim.Native.Nat.{_<_};
 ghost use Rattle.ring.specs.Ring.{allowed, used, past};
-ghost use Rattle.ring.specs.Numbers.{need, entry, found, sendFound, pendingNumber, pendingBy};
+ghost use Rattle.ring.specs.Numbers.{need, entry, found, sendFound};
+ghost use Rattle.ring.specs.Private.{pendingNumber, pendingBy};
 
 // The refusal's number where the test fails, else the rest's.
 pub fn refuse(test: bool, number: u32, rest: u32) -> u32

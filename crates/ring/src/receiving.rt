@@ -1,11 +1,14 @@
 // A receive's look and a whole receive, on plain numbers. The descriptor is read first, and the ring only where it says that a message is pending;
 // each dword of the ring is read at most once. What lays the message is lent no descriptor, what publishes neither ring nor output.
 ghost use mathlib.Core.Path.{_≡_};
-ghost use Prim.Native.Nat.{_≤_, _<_};
-ghost use lib.ListN.{length, getD};
-ghost use Rattle.ring.specs.Ring.{window};
-ghost use Rattle.ring.specs.Numbers.{foundWith, receiveDecision, takeNumber};
+ghost use mathlib.Core.Bool.{true, _||_, cond};
+ghost use Prim.Native.Nat.{_≤_, _<_, _^_};
+ghost use lib.Dec.{eqb};
+ghost use lib.ListN.{length, getD, set};
+ghost use Rattle.ring.specs.Ring.{HEAD, window};
+ghost use Rattle.ring.specs.Numbers.{foundWith, marked, receiveDecision, takeNumber};
 ghost use Rattle.ring.specs.AtOnce.{seen, ended, receive};
+ghost use Rattle.ring.specs.Private.{TakenBy};
 use crate::memory::HEAD;
 use crate::memory::STATUS;
 use crate::memory::TAIL;
@@ -28,7 +31,7 @@ pub struct Seen {
 
 // What a look finds: the descriptor's words, then the header at an own head. TAIL that covers a message is published after the message, so a header
 // that is read before TAIL could be an older message's.
-fn found(own: usize, desc: &[u32], buf: &[u32]) -> Seen
+fn pending_header(own: usize, desc: &[u32], buf: &[u32]) -> Seen
     ensures { λ r. ⌜ r ≡ seen (foundWith own (now (desc .entry)) (length (now (buf .entry))) (getD (now (buf .entry)) own 0)) own (now (buf .entry)) ⌝ }
 {
     let status = wide(dword_at(desc, STATUS));
@@ -54,7 +57,7 @@ pub fn look_header(fits: bool, own: usize, desc: &[u32], buf: &[u32]) -> Seen
     if code != 0 {
         return Seen { code, header: 0 };
     }
-    found(own, desc, buf)
+    pending_header(own, desc, buf)
 }
 
 // The same of a whole receive, which judges its output too.
@@ -65,7 +68,7 @@ fn take_header(fits: bool, own: usize, output: usize, desc: &[u32], buf: &[u32])
     if code != 0 {
         return Seen { code, header: 0 };
     }
-    found(own, desc, buf)
+    pending_header(own, desc, buf)
 }
 
 // The second dword of the message of len dwords that starts at an own head, or 0 where it has none.
@@ -79,21 +82,14 @@ fn second_dword(buf: &[u32], own: usize, len: usize) -> u32
     dword_at(buf, past(own, 1, buf.len()))
 }
 
-// A whole receive: with whether the receiver's state fits as idle, and its own head. The header and the second dword are judged, and where they are
-// well formed the others go straight to their places in the output; a malformed message's others are not read.
-pub fn whole_receive(
-    fits: bool,
-    own: usize,
-    desc: &mut [u32],
-    buf: &[u32],
-    out: &mut [u32],
-) -> Ended
-    ensures { λ r. ⌜ ended r (now (desc .exit)) (now (buf .entry)) (now (out .exit)) ≡ receive fits own (now (out .entry)) (now (desc .entry)) (now (buf .entry)) ⌝ }
+// A whole receive but for its end: decides, judges the header and the second dword, and lays the message where they are well formed: the others go
+// straight to their places in the output, and a malformed message's others are not read. The descriptor is lent to be read.
+fn take_message(fits: bool, own: usize, desc: &[u32], buf: &[u32], out: &mut [u32]) -> Ended
+    ensures { λ r. ⌜ TakenBy r (takeNumber fits own (length (now (out .entry))) (now (desc .entry)) (length (now (buf .entry))) (getD (now (buf .entry)) own 0)) own (now (buf .entry)) (now (out .entry)) (now (out .exit)) ⌝ }
 {
-    let seen = take_header(fits, own, out.len(), &desc[..], buf);
+    let seen = take_header(fits, own, out.len(), desc, buf);
     let code = seen.code;
     if code != 0 {
-        mark(desc, code);
         return Ended {
             code: code,
             len: 0,
@@ -105,18 +101,43 @@ pub fn whole_receive(
     let second = second_dword(buf, own, len);
     if message::well_formed(header, second) {
         let head = lay_message(out, header, second, len, buf, own);
-        publish_head(desc, head as u32);
         return Ended {
             code: 0,
             len: len,
             own: head,
         };
     }
-    let head = past(own, len, buf.len());
-    publish_head(desc, head as u32);
     Ended {
         code: 13,
         len: 0,
-        own: head,
+        own: past(own, len, buf.len()),
     }
+}
+
+// The end of a whole receive: publishes the head past a message that was laid or passed over, or marks STATUS. It is lent neither ring nor output.
+fn end_receive(desc: &mut [u32], end: Ended)
+    requires { ⌜ ((eqb (end .code) 0 || eqb (end .code) 13) ≡ true → end .own < 2 ^ 32) ⌝ }
+    ensures { λ _. ⌜ now (desc .exit) ≡ cond (eqb (end .code) 0 || eqb (end .code) 13) (set (now (desc .entry)) HEAD (end .own)) (marked (end .code) (now (desc .entry))) ⌝ }
+{
+    if (end.code == 0) | (end.code == 13) {
+        publish_head(desc, end.own as u32);
+        return;
+    }
+    mark(desc, end.code);
+}
+
+// A whole receive: with whether the receiver's state fits as idle, and its own head. What ends it needs what taking the message answered, so HEAD comes
+// last.
+pub fn whole_receive(
+    fits: bool,
+    own: usize,
+    desc: &mut [u32],
+    buf: &[u32],
+    out: &mut [u32],
+) -> Ended
+    ensures { λ r. ⌜ ended r (now (desc .exit)) (now (buf .entry)) (now (out .exit)) ≡ receive fits own (now (out .entry)) (now (desc .entry)) (now (buf .entry)) ⌝ }
+{
+    let end = take_message(fits, own, &desc[..], buf, out);
+    end_receive(desc, end);
+    end
 }

@@ -1,9 +1,15 @@
 // A send's look and a whole send, on plain numbers. The message's first two dwords are read once: they are judged as numbers, and those numbers are
 // what is stored. What decides is lent no message, what stores no descriptor, what publishes no ring.
 ghost use mathlib.Core.Path.{_≡_};
+ghost use mathlib.Core.Bool.{cond};
 ghost use mathlib.Core.List.{[]};
-ghost use Rattle.ring.specs.Numbers.{sendDecision};
+ghost use Prim.Native.Nat.{_<_, _^_};
+ghost use lib.Dec.{eqb};
+ghost use lib.ListN.{length, set};
+ghost use Rattle.ring.specs.Ring.{TAIL};
+ghost use Rattle.ring.specs.Numbers.{marked, numberAt, sendDecision};
 ghost use Rattle.ring.specs.AtOnce.{ended, send};
+ghost use Rattle.ring.specs.Private.{PlacedBy};
 use crate::memory::HEAD;
 use crate::memory::STATUS;
 use crate::memory::TAIL;
@@ -46,15 +52,15 @@ pub fn look_number(
     send_found(n, own, len, status, head, tail)
 }
 
-// A whole send: with whether the sender's state fits as idle, and its own tail.
-pub fn whole_send(fits: bool, own: usize, desc: &mut [u32], buf: &mut [u32], msg: &[u32]) -> Ended
-    ensures { λ r. ⌜ ended r (now (desc .exit)) (now (buf .exit)) [] ≡ send fits own (now (msg .entry)) (now (desc .entry)) (now (buf .entry)) ⌝ }
+// A whole send but for its end: decides, and stores the message where it is accepted. The descriptor is lent to be read: while the message is stored
+// nobody can publish.
+fn place_message(fits: bool, own: usize, desc: &[u32], buf: &mut [u32], msg: &[u32]) -> Ended
+    ensures { λ r. ⌜ PlacedBy r (numberAt fits own (now (msg .entry)) (now (desc .entry)) (length (now (buf .entry)))) own (now (msg .entry)) (now (buf .entry)) (now (buf .exit)) ⌝ }
 {
     let header = dword_at(msg, 0);
     let word = dword_at(msg, 1);
-    let code = look_number(fits, own, &desc[..], buf.len(), msg.len(), header, word);
+    let code = look_number(fits, own, desc, buf.len(), msg.len(), header, word);
     if code != 0 {
-        mark(desc, code);
         return Ended {
             code: code,
             len: 0,
@@ -62,10 +68,36 @@ pub fn whole_send(fits: bool, own: usize, desc: &mut [u32], buf: &mut [u32], msg
         };
     }
     let tail = store_message(buf, own, header, word, &msg[2..]);
-    publish_tail(desc, tail as u32);
     Ended {
         code: 0,
         len: 0,
         own: tail,
     }
+}
+
+// The end of a whole send: publishes the tail, or marks STATUS. It is lent no ring.
+fn end_send(desc: &mut [u32], end: Ended)
+    requires { ⌜ (end .code ≡ 0 → end .own < 2 ^ 32) ⌝ }
+    ensures { λ _. ⌜ now (desc .exit) ≡ cond (eqb (end .code) 0) (set (now (desc .entry)) TAIL (end .own)) (marked (end .code) (now (desc .entry))) ⌝ }
+{
+    if end.code == 0 {
+        publish_tail(desc, end.own as u32);
+        return;
+    }
+    mark(desc, end.code);
+}
+
+// A whole send: with whether the sender's state fits as idle, and its own tail. What ends it needs what placing the message answered, so TAIL comes last.
+pub fn whole_send(
+    fits: bool,
+    own: usize,
+    desc: &mut [u32],
+    buf: &mut [u32],
+    msg: &[u32],
+) -> Ended
+    ensures { λ r. ⌜ ended r (now (desc .exit)) (now (buf .exit)) [] ≡ send fits own (now (msg .entry)) (now (desc .entry)) (now (buf .entry)) ⌝ }
+{
+    let end = place_message(fits, own, &desc[..], buf, msg);
+    end_send(desc, end);
+    end
 }

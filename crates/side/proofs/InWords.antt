@@ -13,11 +13,11 @@ use lib.Dec.{eqb}
 use borrow.Author.Tests.{eqb-true}
 use Rattle.message.proofs.Tests.{and-l, and-r}
 use Rattle.channel.specs.State.{State, state, countsOf, counted, zeros, allZero, idleAt, idle, activeSend, activeReceive}
-use Rattle.ring.specs.AtOnce.{AtOnce, ended, numberAt, send, sendBy, receive, receiveBy, receiveNumber, lengthAt}
+use Rattle.ring.specs.AtOnce.{AtOnce, ended, send, sendBy, receive, receiveBy, receiveNumber, lengthAt}
 use Rattle.ring.specs.declared.sending.Ended.{Ended}
 use Rattle.message.specs.Header.{totalLength}
 use Rattle.ring.specs.Ring.{HEAD}
-use Rattle.ring.specs.Numbers.{marked, takeNumber}
+use Rattle.ring.specs.Numbers.{marked, numberAt, takeNumber}
 use Rattle.channel.specs.Send
 use Rattle.channel.specs.Receive
 use Rattle.side.specs.Words.{stateOf, outcome}

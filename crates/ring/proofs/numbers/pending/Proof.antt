@@ -2,7 +2,8 @@
 use mathlib.Core.Path.{_≡_, sym, _∙_}
 use borrow.Author.Needs.{needs}
 use borrow.Author.Tests.{eq-eqb, ne-eqb}
-use Rattle.ring.specs.Numbers.{need, pendingNumber}
+use Rattle.ring.specs.Numbers.{need}
+use Rattle.ring.specs.Private.{pendingNumber}
 use Rattle.ring.proofs.Found.{NoneFound, none-found, found-none, found-one}
 use Rattle.ring.proofs.numbers.pending.Statement.{statement}
 use Rattle.ring.proofs.numbers.pending.Tie as tie

@@ -26,7 +26,7 @@ returns-2 c =
     let n = length (now (a .buf)) in
     let rest = foundWith (a .own) (now (a .desc)) n (getD (now (a .buf)) (a .own) 0) in
     let e = entry-none (length (now (a .desc))) n (a .fits) true 4 rest refl (sym (c .before .before .entry .ensures) ∙ c .before .if1 .left) in
-    rw e (c .found .ensures)
+    rw e (c .pending-header .ensures)
 
 pub look-header-spec : {M : Type 1} → statement M
 look-header-spec = tie.close (tie.spec (λ c κs. search needs) returns (λ c κs. search needs) returns-2)

@@ -17,7 +17,7 @@ returns-2 : tie.Need-returns-2
 unfolding takeNumber
 returns-2 c =
     let s = rw (c .before .before .before .refuse .ensures) at (c .before .before .entry .ensures) in
-    rw (entry-none _ _ _ _ 5 _ refl (sym s ∙ c .before .if1 .left)) (c .found .ensures)
+    rw (entry-none _ _ _ _ 5 _ refl (sym s ∙ c .before .if1 .left)) (c .pending-header .ensures)
 
 pub take-header-spec : {M : Type 1} → statement M
 take-header-spec = tie.close (tie.spec (λ c κs. search needs) (λ c κs. search needs) returns (λ c κs. search needs) returns-2)

@@ -1,99 +1,32 @@
--- `receiving::whole_receive` meets its contract: the header and the second dword that it judges are those of the message, which fits the ring
--- and the output. Assumes nothing.
-use Prim.Native.Nat.{_≤_}
+-- `receiving::whole_receive` meets its contract: the message is taken, and then the receive is ended. Assumes nothing.
 use mathlib.Core.Path.{_≡_, sym, ap, _∙_}
+use mathlib.Core.Bool.{_||_}
 use native.Mathlib.Omega.{arith}
+use lib.Dec.{eqb}
 use lib.ListN.{length, getD}
 use denote.Ref.{now}
 use borrow.Author.Needs.{needs}
-use borrow.Author.Tests.{ne-eqb}
-use Rattle.message.proofs.Formed.{well-formed}
-use Rattle.ring.specs.Numbers.{takeNumber}
-use Rattle.ring.specs.declared.receiving.Seen.{Seen}
-use Rattle.ring.proofs.Found.{past-is}
-use Rattle.ring.proofs.Taken.{Taken, taken-has, laid-message, receive-refused, receive-formed, receive-malformed}
+use Rattle.ring.proofs.Taken.{taken-zero, whole-taken}
 use Rattle.ring.proofs.receiving.whole_receive.Statement.{statement}
 use Rattle.ring.proofs.receiving.whole_receive.Tie as tie
 
+end-receive-requires : tie.Need-end-receive-requires
+end-receive-requires c κs e =
+    let p = c .before .before .before .take-message .ensures in
+    let a = c .before .before .before .before .before .before .before .before .before .args in
+    omega (arith, p .small (taken-zero (a .fits) (a .own) (now (a .out)) (now (a .desc)) (now (a .buf)) _ (p .code) e))
+
 returns : tie.Need-returns
 returns c =
-    let a = c .before .before .before .before .before .before .before .before .before .before .args in
-    let t = c .before .before .before .before .before .take-header in
-    let e = sym (ap (λ (x : Seen). x .code) (t .ensures)) in
-    rw (receive-refused (a .fits) (a .own) (now (a .out)) (now (a .desc)) (now (a .buf)) (t .result .code) e (ne-eqb _ _ (c .before .before .before .before .if1 .taken)), c .before .before .mark .ensures)
-
--- what an accepted look has, and that the header is the message's
-zero : (c : tie.Else1) → let a = c .before .before .before .before .before .before .args in takeNumber (a .fits) (a .own) (length (now (a .out))) (now (a .desc)) (length (now (a .buf))) (getD (now (a .buf)) (a .own) 0) ≡ 0
-zero c = sym (ap (λ (x : Seen). x .code) (c .before .take-header .ensures)) ∙ c .if1 .left
-
-header-is : (c : tie.Else1) → let a = c .before .before .before .before .before .before .args in c .before .take-header .result .header ≡ getD (now (a .buf)) (a .own) 0
-header-is c = rw (zero c) at (ap (λ (x : Seen). x .header) (c .before .take-header .ensures))
-
-has : (c : tie.Else1) → let a = c .before .before .before .before .before .before .args in Taken (a .fits) (a .own) (length (now (a .out))) (now (a .desc)) (length (now (a .buf))) (getD (now (a .buf)) (a .own) 0)
-has c = taken-has _ _ _ _ _ _ (zero c)
-
-second-dword-requires : tie.Need-second-dword-requires
-second-dword-requires c κs =
-    let h = has (c .before) in
-    (h .below, omega (arith, c .total-length .ensures), omega (arith, h .enters .low), h .enters .high)
-
-long : (c : tie.Then2) → 2 ≤ c .before .before .before .total-length .result
-long c =
-    let w = well-formed _ _ (sym (c .before .well-formed .ensures) ∙ c .if2 .taken) in
-    omega (arith, w .low, c .before .before .before .total-length .ensures)
-
-lay-message-requires : tie.Need-lay-message-requires
-lay-message-requires c κs =
-    let e = c .before .before .before .before .before in
-    let h = has e in
-    let t = c .before .before .before .before .total-length .ensures in
-    (long (c .before), omega (arith, h .output-long, t), omega (arith, h .short, t, header-is e), h .below, h .enters .high)
-
-returns-2 : tie.Need-returns-2
-returns-2 c =
-    let formed = c .before .before .before .before .before .before .before .before in
-    let looked = formed .before .before .before .before in
-    let a = looked .before .before .before .before .before .before .args in
-    let eh = header-is looked in
-    let el = formed .before .before .before .total-length .ensures in
-    let es = formed .before .before .second-dword .ensures in
-    let f = sym (formed .before .well-formed .ensures) ∙ formed .if2 .taken in
-    let m = laid-message (now (a .buf)) (length (now (a .buf))) (a .own) _ _ _ (now (a .out)) (has looked .below) (long formed) eh es in
-    let l = c .before .before .before .before .before .before .lay-message .ensures in
-    rw (receive-formed (a .fits) (a .own) (now (a .out)) (now (a .desc)) (now (a .buf)) _ _ _ eh el es (rw eh (zero looked)) f, c .before .before .publish-head .ensures, l .1, l .0, m)
-
-returns-3 : tie.Need-returns-3
-returns-3 c =
-    let formed = c .before .before .before .before .before in
-    let looked = formed .before .before .before .before in
-    let a = looked .before .before .before .before .before .before .args in
-    let eh = header-is looked in
-    let el = formed .before .before .before .total-length .ensures in
-    let es = formed .before .before .second-dword .ensures in
-    let f = sym (formed .before .well-formed .ensures) ∙ formed .if2 .left in
-    let h = has looked in
-    let p = c .before .before .before .before .past .ensures .0 ∙ past-is _ _ _ (h .below) (omega (arith, h .short, el, eh)) (h .enters .high) in
-    rw (receive-malformed (a .fits) (a .own) (now (a .out)) (now (a .desc)) (now (a .buf)) _ _ _ eh el es (rw eh (zero looked)) f, c .before .before .publish-head2 .ensures, p)
+    let a = c .before .before .before .before .before .before .before .before .before .before .before .before .args in
+    whole-taken (a .fits) (a .own) (now (a .out)) (now (a .desc)) (now (a .buf)) _ _ _ (c .before .before .before .before .before .before .take-message .ensures) (c .before .before .end-receive .ensures)
 
 pub whole-receive-spec : {M : Type 1} → statement M
 whole-receive-spec =
     tie.close
     (tie.spec
     (λ c κs. search needs)
-    (λ c κs. search needs)
-    (λ c. search needs)
-    returns
-    (λ c κs. search needs)
-    second-dword-requires
-    (λ c κs. search needs)
-    lay-message-requires
-    (λ c. search needs)
-    (λ c κs. search needs)
+    end-receive-requires
     (λ c. search needs)
     (λ c. search needs)
-    returns-2
-    (λ c κs. search needs)
-    (λ c. search needs)
-    (λ c κs. search needs)
-    (λ c. search needs)
-    returns-3)
+    returns)

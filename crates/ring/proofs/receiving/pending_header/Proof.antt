@@ -1,4 +1,4 @@
--- `receiving::found` meets its contract: it reads the descriptor's three words, and the header where they say that a message is pending. Assumes
+-- `receiving::pending_header` meets its contract: it reads the descriptor's three words, and the header where they say that a message is pending. Assumes
 -- nothing.
 use Prim.Native.Nat.{_<_, _≤_}
 use mathlib.Core.Path.{_≡_, refl, sym, ap, _∙_}
@@ -9,12 +9,12 @@ use lib.Dec.{eqb}
 use denote.Ref.{now}
 use borrow.Author.Needs.{needs}
 use borrow.Author.Tests.{ne-eqb}
-use Rattle.ring.specs.Numbers.{pendingBy, pendingNumber}
+use Rattle.ring.specs.Private.{pendingBy, pendingNumber}
 use Rattle.ring.specs.Ring.{head, status, tail, used}
 use Rattle.ring.specs.declared.numbers.InUse.{InUse}
 use Rattle.ring.proofs.Found.{by-descriptor, torn, whole}
-use Rattle.ring.proofs.receiving.found.Statement.{statement}
-use Rattle.ring.proofs.receiving.found.Tie as tie
+use Rattle.ring.proofs.receiving.pending_header.Statement.{statement}
+use Rattle.ring.proofs.receiving.pending_header.Tie as tie
 
 -- what the descriptor's words say
 said :
@@ -54,5 +54,5 @@ returns-3 c =
     let u = rw z at (ap (λ (x : InUse). x .used) (said (f .before))) in
     rw (whole (length (now (a .buf))) (a .own) (status (now (a .desc))) (head (now (a .desc))) (tail (now (a .desc))) (getD (now (a .buf)) (a .own) 0) z (rw (sym u, ← c .before .before .before .dword-at4 .ensures, ← c .before .before .total-length .ensures) (c .if2 .left)), c .before .before .before .dword-at4 .ensures)
 
-pub found-spec : {M : Type 1} → statement M
-found-spec = tie.close (tie.spec (λ c κs. search needs) (λ c κs. search needs) (λ c κs. search needs) (λ c κs. search needs) (λ c κs. search needs) (λ c κs. search needs) (λ c κs. search needs) returns (λ c κs. search needs) (λ c κs. search needs) returns-2 returns-3)
+pub pending-header-spec : {M : Type 1} → statement M
+pending-header-spec = tie.close (tie.spec (λ c κs. search needs) (λ c κs. search needs) (λ c κs. search needs) (λ c κs. search needs) (λ c κs. search needs) (λ c κs. search needs) (λ c κs. search needs) returns (λ c κs. search needs) (λ c κs. search needs) returns-2 returns-3)

@@ -1,0 +1,89 @@
+-- `receiving::take_message` meets its contract: the header and the second dword that it judges are those of the message, which
+-- fits the ring and the output. Assumes nothing.
+use Prim.Native.Nat.{_≤_}
+use mathlib.Core.Path.{_≡_, sym, ap, _∙_}
+use native.Mathlib.Omega.{arith}
+use lib.ListN.{length, getD}
+use denote.Ref.{now}
+use borrow.Author.Needs.{needs}
+use Rattle.message.proofs.Formed.{well-formed}
+use Rattle.ring.specs.Numbers.{takeNumber}
+use Rattle.ring.specs.declared.receiving.Seen.{Seen}
+use Rattle.ring.proofs.Found.{past-is}
+use Rattle.ring.proofs.Taken.{Taken, laid-message, taken-formed, taken-has, taken-malformed, taken-refused}
+use Rattle.ring.proofs.receiving.take_message.Statement.{statement}
+use Rattle.ring.proofs.receiving.take_message.Tie as tie
+
+returns : tie.Need-returns
+returns c =
+    let a = c .before .before .before .before .before .args in
+    let e = sym (ap (λ (x : Seen). x .code) (c .before .take-header .ensures)) in
+    taken-refused (a .fits) (a .own) (now (a .out)) (now (a .desc)) (now (a .buf)) _ e (c .if1 .taken)
+
+-- what an accepted look has, and that the header is the message's
+zero : (c : tie.Else1) → let a = c .before .before .before .before .before .args in takeNumber (a .fits) (a .own) (length (now (a .out))) (now (a .desc)) (length (now (a .buf))) (getD (now (a .buf)) (a .own) 0) ≡ 0
+zero c = sym (ap (λ (x : Seen). x .code) (c .before .take-header .ensures)) ∙ c .if1 .left
+
+header-is : (c : tie.Else1) → let a = c .before .before .before .before .before .args in c .before .take-header .result .header ≡ getD (now (a .buf)) (a .own) 0
+header-is c = rw (zero c) at (ap (λ (x : Seen). x .header) (c .before .take-header .ensures))
+
+has : (c : tie.Else1) → let a = c .before .before .before .before .before .args in Taken (a .fits) (a .own) (length (now (a .out))) (now (a .desc)) (length (now (a .buf))) (getD (now (a .buf)) (a .own) 0)
+has c = taken-has _ _ _ _ _ _ (zero c)
+
+second-dword-requires : tie.Need-second-dword-requires
+second-dword-requires c κs =
+    let h = has (c .before) in
+    (h .below, omega (arith, c .total-length .ensures), omega (arith, h .enters .low), h .enters .high)
+
+long : (c : tie.Then2) → 2 ≤ c .before .before .before .total-length .result
+long c =
+    let w = well-formed _ _ (sym (c .before .well-formed .ensures) ∙ c .if2 .taken) in
+    omega (arith, w .low, c .before .before .before .total-length .ensures)
+
+lay-message-requires : tie.Need-lay-message-requires
+lay-message-requires c κs =
+    let e = c .before .before .before .before .before in
+    let h = has e in
+    let t = c .before .before .before .before .total-length .ensures in
+    (long (c .before), omega (arith, h .output-long, t), omega (arith, h .short, t, header-is e), h .below, h .enters .high)
+
+returns-2 : tie.Need-returns-2
+returns-2 c =
+    let formed = c .before .before .before .before in
+    let looked = formed .before .before .before .before in
+    let a = looked .before .before .before .before .before .args in
+    let eh = header-is looked in
+    let el = formed .before .before .before .total-length .ensures in
+    let es = formed .before .before .second-dword .ensures in
+    let f = sym (formed .before .well-formed .ensures) ∙ formed .if2 .taken in
+    let m = laid-message (now (a .buf)) (length (now (a .buf))) (a .own) _ _ _ (now (a .out)) (has looked .below) (long formed) eh es in
+    let l = c .before .before .lay-message .ensures in
+    taken-formed (a .fits) (a .own) (now (a .out)) (now (a .desc)) (now (a .buf)) _ _ _ eh el es (zero looked) _ _ f (l .1) (l .2) (l .0 ∙ m)
+
+returns-3 : tie.Need-returns-3
+returns-3 c =
+    let formed = c .before in
+    let looked = formed .before .before .before .before in
+    let a = looked .before .before .before .before .before .args in
+    let eh = header-is looked in
+    let el = formed .before .before .before .total-length .ensures in
+    let es = formed .before .before .second-dword .ensures in
+    let f = sym (formed .before .well-formed .ensures) ∙ formed .if2 .left in
+    let h = has looked in
+    let p = c .past .ensures .0 ∙ past-is _ _ _ (h .below) (omega (arith, h .short, el, eh)) (h .enters .high) in
+    taken-malformed (a .fits) (a .own) (now (a .out)) (now (a .desc)) (now (a .buf)) _ _ _ eh el es (zero looked) _ f p (c .past .ensures .1)
+
+pub take-message-spec : {M : Type 1} → statement M
+take-message-spec =
+    tie.close
+    (tie.spec
+    (λ c κs. search needs)
+    returns
+    (λ c κs. search needs)
+    second-dword-requires
+    (λ c κs. search needs)
+    lay-message-requires
+    (λ c. search needs)
+    returns-2
+    (λ c κs. search needs)
+    returns-3)
