@@ -200,16 +200,18 @@ struct guc_css {
 	uint32_t truncated; /* 1: neither modulus nor exponent is there; 0 on a refusal */
 };
 
-/* On a refusal start and len are 0. */
+/* On a refusal all but code are 0. */
 struct guc_part {
 	uint32_t code;
-	size_t start; /* byte in the lent blob */
-	size_t len;   /* bytes */
+	uint32_t truncated; /* 1: the image has neither modulus nor exponent */
+	size_t start;       /* byte in the lent blob */
+	size_t len;         /* bytes */
 };
 
 struct guc_copied {
 	uint32_t code;
-	size_t len; /* 0: bytes copied; 100: bytes needed; other refusals: 0 */
+	uint32_t truncated; /* as in guc_part; also beside 100 */
+	size_t len;         /* 0: bytes copied; 100: bytes needed; other refusals: 0 */
 };
 
 /* On a refusal all but code are 0. */
@@ -370,7 +372,7 @@ struct guc_css guc_css_answer(const uint8_t *blob, size_t len);
 
 /*
  * Where a component lies. The modulus and the exponent of a truncated image are
- * answered by 0 with start 0 and len 0.
+ * answered by 0 with truncated 1, start 0 and len 0.
  * Answers 0, 15, 16, 17 or 101.
  */
 struct guc_part guc_css_part(const uint8_t *blob, size_t len, uint32_t which);

@@ -70,7 +70,7 @@ static void css_refused(void)
 	make_image(blob);
 	CHECK(guc_css_answer(blob, IMAGE - 1).truncated == 1);
 	part = guc_css_part(blob, IMAGE - 1, GUC_PART_MODULUS);
-	CHECK(part.code == GUC_OK && part.start == 0 && part.len == 0);
+	CHECK(part.code == GUC_OK && part.truncated == 1 && part.start == 0 && part.len == 0);
 	CHECK(guc_css_copy(blob, IMAGE - 1, GUC_PART_EXPONENT, dst, 0).code == GUC_OK);
 	CHECK(guc_css_answer(blob, 151).code == GUC_CSS_BEYOND);
 	CHECK(guc_css_answer(blob, 127).code == GUC_SHORT_BLOB);

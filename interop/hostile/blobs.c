@@ -37,17 +37,17 @@ static void keep(uint32_t code, uint64_t a, uint64_t b, uint64_t c, uint64_t d)
 
 static void keep_part(struct guc_part p)
 {
-	keep(p.code, p.start, p.len, 0, 0);
+	keep(p.code, p.start, p.len, p.truncated, 0);
 	said.beyond = p.start + p.len;
-	shape = "start, len";
+	shape = "start, len, truncated";
 }
 
 static void keep_copied(struct guc_copied c)
 {
 	size_t k;
 
-	keep(c.code, c.len, 0, 0, 0);
-	shape = "len of a copy";
+	keep(c.code, c.len, c.truncated, 0, 0);
+	shape = "len of a copy, truncated";
 	for (k = 0; k < asked.room; k++)
 		said.sum = said.sum * 31 + dst()[k];
 }

@@ -41,9 +41,14 @@ fn expected_part(image: &Image, which: u32) -> Part {
         1 => image.rsa,
         2 => image.modulus,
         3 => image.exponent,
-        _ => return Part { code: 101, start: 0, len: 0 },
+        _ => return Part { code: 101, truncated: 0, start: 0, len: 0 },
     };
-    Part { code: image.code, start: span.0, len: span.1 - span.0 }
+    Part {
+        code: image.code,
+        truncated: image.truncated as u32,
+        start: span.0,
+        len: span.1 - span.0,
+    }
 }
 
 fn expected_version(version: Result<(u32, u32, u32), u32>) -> Version {
@@ -94,12 +99,12 @@ fn check_copy(
     let mut dst = bytes(rng, &want);
     let got = copy(dst.get_mut());
     let expected = match part {
-        Part { code: 0, len, .. } if len > room => Copied { code: 100, len },
-        Part { code: 0, start, len } => {
+        Part { code: 0, truncated, len, .. } if len > room => Copied { code: 100, truncated, len },
+        Part { code: 0, truncated, start, len } => {
             want[..len].copy_from_slice(&blob[start..start + len]);
-            Copied { code: 0, len }
+            Copied { code: 0, truncated, len }
         }
-        Part { code, .. } => Copied { code, len: 0 },
+        Part { code, .. } => Copied { code, truncated: 0, len: 0 },
     };
     same("copy", got, expected).map_err(|problem| format!("room {room}, {part:?}: {problem}"))?;
     same_lent("destination", &dst, &want)?;
@@ -151,7 +156,7 @@ pub fn check_css_blob(rng: &mut Rng, tally: &mut Tally, blob: &[u8]) -> Outcome 
 pub fn check_directory(rng: &mut Rng, tally: &mut Tally, blob: &[u8], name: &[u8]) -> Outcome {
     let (lent, lent_name) = (bytes(rng, blob), bytes(rng, name));
     let (code, start, end) = cpd::seek(blob, name);
-    let expected = Part { code, start, len: end - start };
+    let expected = Part { code, truncated: 0, start, len: end - start };
     let part = guc::cpd_part(lent.get(), lent_name.get());
     let named = |problem: String| format!("CPD name {}: {problem}", name.escape_ascii());
     same("part", part, expected).map_err(named)?;

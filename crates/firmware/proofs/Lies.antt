@@ -27,6 +27,9 @@ pub record Lies (n : ℕ) (p : Span) : Type 0 where
 pub located-code : (k : ℕ) (t : Bool) (p : Span) {l : Located} → l ≡ placed k t p → k ≡ l .code
 located-code k t p e = rw e
 
+pub located-truncated : (k : ℕ) (t : Bool) (p : Span) {l : Located} → l ≡ placed k t p → t ≡ l .truncated
+located-truncated k t p e = rw e
+
 -- a location of a part that lies within n bytes
 module _ (n : ℕ) (p : Span) (h : Lies n p) (k : ℕ) (t : Bool) {l : Located} (e : l ≡ placed k t p) where
   pub located-ends : l .start + l .len ≤ n

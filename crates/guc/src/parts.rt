@@ -6,7 +6,7 @@ ghost use lib.ListN.{length, drop};
 ghost use Rattle.firmware.specs.Bytes.{bytes, span};
 ghost use Rattle.firmware.specs.Css;
 ghost use Rattle.firmware.specs.Inside.{hucNumber, hucTruncated};
-ghost use Rattle.guc.specs.Parts.{imageBy, componentOf, ofWhich, cssPart, hucPart, cpdPart, copied, copiedBy, cssCopy, hucCopy, cpdCopy};
+ghost use Rattle.guc.specs.Parts.{imageBy, componentOf, ofWhich, cssPart, hucPart, cpdPart, copied, copiedBy, cssCopy, hucCopy, cpdCopy, flag, partBy};
 use firmware::Answer;
 use firmware::Component;
 use firmware::Located;
@@ -18,18 +18,20 @@ pub struct Image {
     pub truncated: u32,
 }
 
-// 0 and where a part lies in the lent blob, or the number that refuses it with start and length 0.
+// 0 and where a part lies in the lent blob, with whether its image is truncated, 0 or 1; or the number that refuses it with zeros.
 #[repr(C)]
 pub struct Part {
     pub code: u32,
+    pub truncated: u32,
     pub start: usize,
     pub len: usize,
 }
 
-// 0 and the bytes copied, or the number that refuses it; 100 with the bytes that are needed.
+// 0 and the bytes copied, with whether the part's image is truncated, or the number that refuses it; 100 with the bytes that are needed.
 #[repr(C)]
 pub struct Copied {
     pub code: u32,
+    pub truncated: u32,
     pub len: usize,
 }
 
@@ -51,27 +53,28 @@ fn component(which: u32) -> Which
     }
 }
 
+// Truncated or not, as C has it.
+fn flag(t: bool) -> u32
+    ensures { λ r. ⌜ r ≡ flag t ⌝ }
+{
+    if t { 1 } else { 0 }
+}
+
 fn as_image(a: Answer) -> Image
     ensures { λ r. ⌜ r ≡ imageBy (a .code) (a .truncated) ⌝ }
 {
-    if a.truncated {
-        Image {
-            code: a.code,
-            truncated: 1,
-        }
-    } else {
-        Image {
-            code: a.code,
-            truncated: 0,
-        }
+    Image {
+        code: a.code,
+        truncated: flag(a.truncated),
     }
 }
 
 fn as_part(l: Located) -> Part
-    ensures { λ r. ⌜ r ≡ record { code = l .code; start = l .start; len = l .len } ⌝ }
+    ensures { λ r. ⌜ r ≡ partBy l ⌝ }
 {
     Part {
         code: l.code,
+        truncated: flag(l.truncated),
         start: l.start,
         len: l.len,
     }
@@ -100,6 +103,7 @@ pub extern "C" fn guc_css_part(blob: &[u8], which: u32) -> Part
     match component(which) {
         Which::None => Part {
             code: 101,
+            truncated: 0,
             start: 0,
             len: 0,
         },
@@ -117,6 +121,7 @@ pub extern "C" fn guc_huc_part(blob: &[u8], which: u32) -> Part
     match component(which) {
         Which::None => Part {
             code: 101,
+            truncated: 0,
             start: 0,
             len: 0,
         },
@@ -147,29 +152,41 @@ fn copy_bytes(dst: &mut [u8], src: &[u8])
     }
 }
 
-// Copies a part out that a number accepts, where the destination has room for it.
-fn copy_out(code: u32, part: &[u8], dst: &mut [u8]) -> Copied
-    ensures { λ r. ⌜ copied r (now (dst .exit)) ≡ copiedBy code (now (part .entry)) (now (dst .entry)) ⌝ }
+// Copies out a part that its judgement accepts, where the destination has room for it.
+fn copy_out(code: u32, truncated: u32, part: &[u8], dst: &mut [u8]) -> Copied
+    ensures { λ r. ⌜ copied r (now (dst .exit)) ≡ copiedBy code truncated (now (part .entry)) (now (dst .entry)) ⌝ }
 {
     let len = part.len();
     if code != 0 {
-        return Copied { code, len: 0 };
+        return Copied {
+            code,
+            truncated,
+            len: 0,
+        };
     }
     if dst.len() < len {
-        return Copied { code: 100, len };
+        return Copied {
+            code: 100,
+            truncated,
+            len,
+        };
     }
     copy_bytes(dst, part);
-    Copied { code: 0, len }
+    Copied {
+        code: 0,
+        truncated,
+        len,
+    }
 }
 
 // Copies out the part that was located: its bytes are read, and nothing that was judged is read again.
 fn copy_part(blob: &[u8], l: Located, dst: &mut [u8]) -> Copied
     requires { ⌜ l .start + l .len ≤ length (now blob) ⌝ }
-    ensures { λ r. ⌜ copied r (now (dst .exit)) ≡ copiedBy (l .code) (bytes (now (blob .entry)) (span (l .start) (l .start + l .len))) (now (dst .entry)) ⌝ }
+    ensures { λ r. ⌜ copied r (now (dst .exit)) ≡ copiedBy (l .code) (flag (l .truncated)) (bytes (now (blob .entry)) (span (l .start) (l .start + l .len))) (now (dst .entry)) ⌝ }
 {
     let start = l.start;
     let end = start + l.len;
-    copy_out(l.code, &blob[start..end], dst)
+    copy_out(l.code, flag(l.truncated), &blob[start..end], dst)
 }
 
 #[no_mangle]
@@ -177,7 +194,11 @@ pub extern "C" fn guc_css_copy(blob: &[u8], which: u32, dst: &mut [u8]) -> Copie
     ensures { λ r. ⌜ copied r (now (dst .exit)) ≡ cssCopy which (now (blob .entry)) (now (dst .entry)) ⌝ }
 {
     match component(which) {
-        Which::None => Copied { code: 101, len: 0 },
+        Which::None => Copied {
+            code: 101,
+            truncated: 0,
+            len: 0,
+        },
         Which::One(c) => {
             let l = firmware::css_located(blob, c);
             copy_part(blob, l, dst)
@@ -190,7 +211,11 @@ pub extern "C" fn guc_huc_copy(blob: &[u8], which: u32, dst: &mut [u8]) -> Copie
     ensures { λ r. ⌜ copied r (now (dst .exit)) ≡ hucCopy which (now (blob .entry)) (now (dst .entry)) ⌝ }
 {
     match component(which) {
-        Which::None => Copied { code: 101, len: 0 },
+        Which::None => Copied {
+            code: 101,
+            truncated: 0,
+            len: 0,
+        },
         Which::One(c) => {
             let l = firmware::huc_located(blob, c);
             copy_part(blob, l, dst)

@@ -3,7 +3,7 @@ ghost use mathlib.Core.Path.{_≡_};
 ghost use lib.ListN.{getD};
 ghost use Rattle.message.specs.Fields.{fieldOf, numDwords, type};
 ghost use Rattle.message.specs.Types.{known};
-ghost use Rattle.message.specs.Header.{totalLength, wellFormed, startsMessage, isMessage};
+ghost use Rattle.message.specs.Header.{totalLength, wellFormed, startsMessage};
 
 // The dword at i, or 0 where there is none.
 pub fn dword_at(s: &[u32], i: usize) -> u32
@@ -51,16 +51,10 @@ pub fn well_formed(header: u32, word: u32) -> bool
     (format == 0) & (reserved == 0) & (1 <= n) & (n <= 255) & known_type(word)
 }
 
-// Whether that many dwords, of which these are the first two, are one well-formed message.
+// Whether that many dwords, of which these are the first two, are one well-formed message, exactly L of them. It is lent no message: who asks has read the two
+// dwords, and goes on with what was judged.
 pub fn starts_message(len: usize, header: u32, word: u32) -> bool
     ensures { λ r. ⌜ r ≡ startsMessage len header word ⌝ }
 {
     (len == total_length(header)) & well_formed(header, word)
-}
-
-// Whether the dwords are one well-formed message, exactly L of them.
-pub fn is_message(dwords: &[u32]) -> bool
-    ensures { λ r. ⌜ r ≡ isMessage (now (dwords .entry)) ⌝ }
-{
-    starts_message(dwords.len(), dword_at(dwords, 0), dword_at(dwords, 1))
 }

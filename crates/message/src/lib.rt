@@ -6,7 +6,6 @@ mod packing;
 mod unpacking;
 
 pub use header::dword_at;
-pub use header::is_message;
 pub use header::starts_message;
 pub use header::total_length;
 pub use header::well_formed;

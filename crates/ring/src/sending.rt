@@ -88,13 +88,7 @@ fn end_send(desc: &mut [u32], end: Ended)
 }
 
 // A whole send: with whether the sender's state fits as idle, and its own tail. What ends it needs what placing the message answered, so TAIL comes last.
-pub fn whole_send(
-    fits: bool,
-    own: usize,
-    desc: &mut [u32],
-    buf: &mut [u32],
-    msg: &[u32],
-) -> Ended
+pub fn whole_send(fits: bool, own: usize, desc: &mut [u32], buf: &mut [u32], msg: &[u32]) -> Ended
     ensures { λ r. ⌜ ended r (now (desc .exit)) (now (buf .exit)) [] ≡ send fits own (now (msg .entry)) (now (desc .entry)) (now (buf .entry)) ⌝ }
 {
     let end = place_message(fits, own, &desc[..], buf, msg);

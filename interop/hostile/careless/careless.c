@@ -141,13 +141,14 @@ uint32_t guc_receive_look(uint32_t w[260], uint32_t *desc, size_t desc_len, cons
 /* Judged, then each field read again. */
 struct guc_part guc_css_part(const uint8_t *blob, size_t len, uint32_t which)
 {
-	struct guc_part p = { guc_css_answer(blob, len).code, 0, 0 };
+	struct guc_part p = { guc_css_answer(blob, len).code, 0, 0, 0 };
 	size_t ucode = 128, rsa = ucode + 4 * (dword(blob + 24) - (size_t)dword(blob + 4));
 	size_t modulus = rsa + 4 * (size_t)dword(blob + 28);
 	size_t exponent = modulus + 4 * (size_t)dword(blob + 32);
 	const size_t start[5] = { ucode, rsa, modulus, exponent, exponent + 4 };
 
-	if (p.code || (which > 1 && 4 * (size_t)dword(blob + 24) > len))
+	p.truncated = p.code == GUC_OK && 4 * (size_t)dword(blob + 24) > len;
+	if (p.code || (which > 1 && p.truncated))
 		return p;
 	p.start = start[which];
 	p.len = start[which + 1] - start[which];
@@ -158,7 +159,8 @@ struct guc_copied guc_css_copy(const uint8_t *blob, size_t len, uint32_t which, 
 			       size_t room)
 {
 	struct guc_part p = guc_css_part(blob, len, which);
-	struct guc_copied c = { p.code ? p.code : p.len > room ? GUC_NO_ROOM : GUC_OK, p.len };
+	struct guc_copied c = { p.code ? p.code : p.len > room ? GUC_NO_ROOM : GUC_OK,
+				p.truncated, p.len };
 
 	if (c.code == GUC_OK && p.start + p.len <= len)
 		memcpy(dst, blob + p.start, p.len);

@@ -41,6 +41,7 @@ pub struct Css {
 #[derive(Clone, Copy, Debug, PartialEq, Eq)]
 pub struct Part {
     pub code: u32,
+    pub truncated: u32,
     pub start: usize,
     pub len: usize,
 }
@@ -49,6 +50,7 @@ pub struct Part {
 #[derive(Clone, Copy, Debug, PartialEq, Eq)]
 pub struct Copied {
     pub code: u32,
+    pub truncated: u32,
     pub len: usize,
 }
 

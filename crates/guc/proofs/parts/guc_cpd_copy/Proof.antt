@@ -1,5 +1,7 @@
 -- `parts::guc_cpd_copy` meets its contract. Assumes nothing.
-use Rattle.firmware.proofs.Lies.{cpd-lies, located-code, located-ends, located-span}
+use mathlib.Core.Path.{sym}
+use mathlib.Core.Bool.{false}
+use Rattle.firmware.proofs.Lies.{cpd-lies, located-code, located-truncated, located-ends, located-span}
 use Rattle.guc.specs.Parts.{cpdCopy}
 use borrow.Author.Needs.{needs}
 use Rattle.guc.proofs.parts.guc_cpd_copy.Statement.{statement}
@@ -12,7 +14,8 @@ returns : tie.Need-returns
 unfolding cpdCopy
 returns c =
     let found = c .before .before .before .before .cpd-located .ensures in
-    rw (located-code _ _ _ found, ← located-span _ _ (cpd-lies _ _) _ _ found) (c .before .before .copy-part .ensures)
+    let none = sym (located-truncated _ false _ found) in
+    rw (located-code _ _ _ found, ← located-span _ _ (cpd-lies _ _) _ _ found) (rw none at (c .before .before .copy-part .ensures))
 
 pub guc-cpd-copy-spec : {M : Type 1} → statement M
 guc-cpd-copy-spec = tie.close (tie.spec (λ c κs. search needs) copy-part-requires (λ c. search needs) returns)

@@ -1,6 +1,6 @@
 -- `parts::guc_css_copy` meets its contract. Assumes nothing.
 use mathlib.Core.Option.{Option·elim}
-use Rattle.firmware.proofs.Lies.{css-lies, located-code, located-ends, located-span}
+use Rattle.firmware.proofs.Lies.{css-lies, located-code, located-truncated, located-ends, located-span}
 use Rattle.guc.specs.Parts.{cssCopy, ofWhich}
 use borrow.Author.Needs.{needs}
 use Rattle.guc.proofs.parts.guc_css_copy.Statement.{statement}
@@ -17,7 +17,7 @@ returns-2 : tie.Need-returns-2
 unfolding cssCopy ofWhich Option·elim
 returns-2 c =
     let found = c .before .before .before .before .css-located .ensures in
-    rw (← c .before .before .before .before .before .before .before .before .component .ensures, c .before .before .before .before .before .before .c .given .1, located-code _ _ _ found, ← located-span _ _ (css-lies _ _) _ _ found)
+    rw (← c .before .before .before .before .before .before .before .before .component .ensures, c .before .before .before .before .before .before .c .given .1, located-code _ _ _ found, located-truncated _ _ _ found, ← located-span _ _ (css-lies _ _) _ _ found)
     (c .before .before .copy-part .ensures)
 
 pub guc-css-copy-spec : {M : Type 1} → statement M
