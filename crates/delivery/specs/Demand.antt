@@ -1,5 +1,5 @@
--- Demand 3: 'After every list of looks, moves, publishes and whole calls of one sender and one receiver, in any order, refused ones included,
--- the channel has done what document 01's plain channel does'. One record, a field for each sentence of the demand.
+-- The customer's demand 3: after every list of looks, moves, publishes and whole calls of one sender and one receiver, in any order, refused ones included,
+-- the channel has done what document 01's plain channel does. One record, a field for each sentence of the demand.
 use Prim.Native.Nat.{ℕ, zero, suc, _+_, _%_, _≤_, _<_}
 use mathlib.Core.Path.{_≡_}
 use mathlib.Core.Bool.{true, _||_, cond}

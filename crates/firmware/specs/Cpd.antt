@@ -18,7 +18,7 @@ unfoldable pub first : (ℕ → Bool) → ℕ → ℕ → ℕ
 first p i zero = i
 first p i (suc n) = cond (p i) i (first p (suc i) n)
 
--- 'name to seek .. 1 to 12 bytes without a zero'
+-- a name to seek has '1 to 12 bytes without a zero'
 abbrev pub nonzero : List ℕ → ℕ → Bool
 nonzero name j = not (eqb (getD name j 0) 0)
 
@@ -64,7 +64,8 @@ agrees b name at = all (λ j. eqb (getD b (at + j) 0) (getD name j 0)) 12
 unfoldable pub firstEntry : List ℕ → List ℕ → ℕ
 firstEntry b name = first (λ i. agrees b name (entryStart b i)) 0 (count b)
 
--- entry i: the directory's own numbers, 20 where there is none, 21 'entry's part lies beyond the blob'
+-- ours, for what seeking a name and a list of all entries share: entry i, by the numbers of the directory's header, 20 where there is none, then 21 'entry's
+-- part lies beyond the blob'
 unfoldable pub entryNumber : List ℕ → ℕ → ℕ
 entryNumber b i =
     then (directoryNumber b) (cond (leb (count b) i) 20 (cond (ltb (length b) (entryPart b (entryStart b i) .to)) 21 0))
@@ -89,10 +90,10 @@ place b name = cond (not (isName name)) nowhere (entryPlace b (firstEntry b name
 abbrev pub located : List ℕ → List ℕ → Located
 located b name = placed (number b name) false (place b name)
 
--- what a directory has, whatever is sought: its number and, where that is 0, how many entries
+-- ours, for a list of all entries: what a directory has, whatever is sought: its number and, where that is 0, how many entries
 unfoldable pub entriesOf : List ℕ → Directory
 entriesOf b = record { code = directoryNumber b; count = cond (eqb (directoryNumber b) 0) (count b) 0 }
 
--- where the twelve bytes of the name of entry i lie
+-- ours: where the twelve bytes of the name of entry i lie
 unfoldable pub namePlace : List ℕ → ℕ → Span
 namePlace b i = cond (ltb i (entriesOf b .count)) (span (entryStart b i) (entryStart b i + 12)) nowhere

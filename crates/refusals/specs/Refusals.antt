@@ -46,7 +46,7 @@ unfoldable pub oneOf : List ℕ → ℕ → Bool
 oneOf [] c = false
 oneOf (x ∷ xs) c = eqb c x || oneOf xs c
 
--- No call answers another number than those of its list; when it answers which, its chain says. 'An accepted call answers 0.'
+-- No call answers another number than those of its list; when it answers which, its chain says. 'An accepted call answers 0'.
 -- 'Numbers 6 to 11 belong to looks', and so to whole calls, which look first
 abbrev pub sendLooks : List ℕ
 sendLooks = 0 ∷ 1 ∷ 2 ∷ 3 ∷ 4 ∷ 6 ∷ 7 ∷ 8 ∷ 10 ∷ []
