@@ -9,8 +9,8 @@ use lib.Dec.{eqb, ltb}
 use borrow.Author.Tests.{eqb-true, lt-ltb, le-leb, eq-eqb, ne-eqb}
 use Rattle.message.specs.Header.{totalLength, wellFormed}
 use Rattle.message.proofs.Tests.{and-l, and-r}
-use Rattle.ring.specs.Ring.{laid}
-use Rattle.ring.proofs.Straight.{drop-replicate}
+use Rattle.runs.specs.Buffer.{laid}
+use Rattle.runs.proofs.Straight.{drop-replicate}
 use Rattle.channel.specs.State.{State, activeReceive, activeSend, allZero, idle, idleAt, zeros}
 
 module _ (n o : ℕ) (h : o < n) where

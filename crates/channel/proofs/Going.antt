@@ -8,9 +8,10 @@ use borrow.Author.Tests.{eqb-true, leb-true, ltb-true}
 use Rattle.message.specs.Header.{totalLength}
 use Rattle.message.proofs.Tests.{and-l, and-r}
 use Rattle.ring.specs.Numbers.{entry, need}
-use Rattle.ring.specs.Ring.{allowed, past}
+use Rattle.ring.specs.Ring.{allowed}
+use Rattle.runs.specs.Buffer.{past}
 use Rattle.ring.proofs.Chains.{allowed-high, entered, entered-fits, entered-rest, passed, passed-rest}
-use Rattle.ring.proofs.Found.{past-is}
+use Rattle.runs.proofs.Offsets.{past-is}
 use Rattle.channel.specs.Opening.{openNumber}
 use Rattle.channel.specs.State.{State, activeReceive, activeSend, header}
 

@@ -13,13 +13,15 @@ use Rattle.message.specs.Header.{totalLength, wellFormed}
 use Rattle.ring.specs.AtOnce.{AtOnce, ended, receive, receiveBy, receiveNumber}
 use Rattle.ring.specs.Numbers.{entry, foundWith, marked, need, receiveDecision, takeNumber}
 use Rattle.channel.specs.Outcome.{Outcome}
-use Rattle.ring.specs.Ring.{allowed, head, status, tail, window}
+use Rattle.ring.specs.Ring.{allowed, head, status, tail}
+use Rattle.runs.specs.Buffer.{window}
 use Rattle.channel.specs.State.{State, activeReceive, header, idle, idleAt, second}
 use Rattle.channel.specs.Receive
 use Rattle.ring.specs.declared.sending.Ended.{Ended}
-use Rattle.ring.proofs.Chains.{cases, ok, tested}
+use Rattle.ring.proofs.Chains.{ok, tested}
+use Rattle.message.proofs.Tests.{cases}
 use Rattle.channel.proofs.Fits.{busy-active-receive, idle-same}
-use Rattle.ring.proofs.Ring.{window-append, window-at, window-length}
+use Rattle.runs.proofs.Ring.{window-append, window-at, window-length}
 use Rattle.ring.proofs.Taken.{found-accepted, found-not-13, total-high, total-low}
 
 -- the outcome of a whole receive, with the state s before it

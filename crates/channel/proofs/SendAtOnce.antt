@@ -14,14 +14,16 @@ use Rattle.message.proofs.Formed.{message-formed, message-length, message-long,
 use Rattle.ring.specs.AtOnce.{AtOnce, ended, send, sendBy}
 use Rattle.ring.specs.Numbers.{entry, found, marked, need, sendFound}
 use Rattle.channel.specs.Outcome.{Outcome}
-use Rattle.ring.specs.Ring.{TAIL, free, head, status, stored, tail, used}
+use Rattle.ring.specs.Ring.{TAIL, free, head, status, tail, used}
+use Rattle.runs.specs.Buffer.{stored}
 use Rattle.channel.specs.State.{State, activeSend, idle, idleAt}
 use Rattle.channel.specs.Send
 use Rattle.ring.specs.declared.sending.Ended.{Ended}
-use Rattle.ring.proofs.Chains.{Entered, cases, entered, entered-fits, entered-rest, passed, passed-rest, tested}
+use Rattle.ring.proofs.Chains.{Entered, entered, entered-fits, entered-rest, passed, passed-rest, tested}
+use Rattle.message.proofs.Tests.{cases}
 use Rattle.channel.proofs.Fits.{idle-same}
 use Rattle.ring.proofs.Sent.{Accepted, accepted}
-use Rattle.ring.proofs.Ring.{stored-length, stored-take}
+use Rattle.runs.proofs.Ring.{stored-length, stored-take}
 
 -- a whole send that is accepted, as an outcome with the state s before it
 abbrev pub sendOutcome : State → AtOnce → Outcome

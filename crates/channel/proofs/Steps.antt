@@ -13,8 +13,8 @@ use Rattle.message.proofs.Formed.{well-formed}
 use Rattle.channel.specs.State.{State, activeReceive, header, second}
 use Rattle.channel.specs.Receive.{publishNumberOf}
 use Rattle.ring.proofs.Chains.{passed, passed-rest, entered-fits, entered-rest}
-use Rattle.ring.specs.Ring.{laid}
-use Rattle.ring.proofs.Straight.{laid-there}
+use Rattle.runs.specs.Buffer.{laid}
+use Rattle.runs.proofs.Straight.{laid-there}
 use Rattle.channel.proofs.Going.{Going, going-receive, receive-active}
 
 -- whether a receive's publish moves HEAD: its number is 0 or 13

@@ -13,8 +13,8 @@ use crate::state::no_copy;
 use crate::state::publish_number;
 use crate::state::receiving_number;
 use message::dword_at;
-use ring::past;
 use ring::refuse;
+use runs::past;
 
 // A receiver's state: made for a buffer of n dwords, with its own head. Mid-call it has a copy of the dwords that it has moved out of the buffer, of a
 // message of len.
@@ -158,7 +158,7 @@ impl Receiver {
                 next: Receiver::idle_at(self.n, head),
             };
         }
-        let head = ring::lay_copy(out, header, second, &copy[2..len], self.own, n);
+        let head = runs::lay_copy(out, header, second, &copy[2..len], self.own, n);
         ring::publish_head(desc, head as u32);
         Received {
             code: 0,

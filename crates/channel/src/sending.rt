@@ -3,7 +3,7 @@ ghost use mathlib.Core.Path.{_≡_};
 ghost use mathlib.Core.List.{List, _∷_};
 ghost use Prim.Native.Nat.{ℕ};
 ghost use lib.ListN.{length};
-ghost use Rattle.ring.specs.Ring.{laid};
+ghost use Rattle.runs.specs.Buffer.{laid};
 ghost use Rattle.channel.specs.State.{ofSender, countsOf, zeros, idleAt, idle, activeSend};
 ghost use Rattle.ring.specs.Numbers.{need, entry};
 ghost use Rattle.channel.specs.Outcome.{sent};
@@ -13,7 +13,7 @@ use crate::state::fits_idle;
 use crate::state::no_copy;
 use crate::state::sending_number;
 use message::dword_at;
-use ring::past;
+use runs::past;
 
 // A sender's state: made for a buffer of n dwords, with its own tail. Mid-call it has a copy of the message, of
 // len dwords, of which moved are stored.
@@ -36,7 +36,7 @@ fn loaded(header: u32, word: u32, rest: &[u32]) -> [u32; 256]
     ensures { λ r. ⌜ r ≡ laid (header ∷ word ∷ now (rest .entry)) zeros ⌝ }
 {
     let mut copy = no_copy();
-    ring::lay(&mut copy, header, word, rest);
+    runs::lay(&mut copy, header, word, rest);
     copy
 }
 

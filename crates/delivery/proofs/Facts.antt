@@ -15,9 +15,10 @@ use Rattle.message.specs.Fields.{holds}
 use Rattle.message.specs.Header.{isMessage}
 use Rattle.message.proofs.Formed.{message-long}
 use Rattle.ring.specs.Numbers.{need}
-use Rattle.ring.specs.Ring.{stored}
-use Rattle.ring.proofs.Chains.{cases, ok}
-use Rattle.ring.proofs.Ring.{apart, stored-other, stored-take}
+use Rattle.runs.specs.Buffer.{stored}
+use Rattle.ring.proofs.Chains.{ok}
+use Rattle.message.proofs.Tests.{cases}
+use Rattle.runs.proofs.Ring.{apart, stored-other, stored-take}
 use Rattle.delivery.specs.Operations.{Op, plainAnswer, receiveLook, receiveMove, receivePublish, receiveWhole, sendLook, sendMove, sendPublish, sendWhole}
 use Rattle.delivery.specs.Plain.{Plain, Receiving, Sending, first, notReceiving, notSending, receiving, sending}
 use Rattle.delivery.specs.Plain

@@ -12,10 +12,12 @@ use lib.Dec.{ltb, eqb}
 use Rattle.message.specs.Header.{isMessage}
 use Rattle.message.proofs.Formed.{message-long}
 use Rattle.ring.specs.Numbers.{entry, found, need}
-use Rattle.ring.specs.Ring.{allowed, head, status, tail, used, window}
+use Rattle.ring.specs.Ring.{allowed, head, status, tail, used}
+use Rattle.runs.specs.Buffer.{window}
 use Rattle.channel.specs.State.{State, idleAt}
-use Rattle.ring.proofs.Chains.{allowed-low, cases}
-use Rattle.ring.proofs.Ring.{gap}
+use Rattle.ring.proofs.Chains.{allowed-low}
+use Rattle.message.proofs.Tests.{cases}
+use Rattle.runs.proofs.Ring.{gap}
 use Rattle.delivery.specs.Operations.{Channel}
 use Rattle.delivery.specs.Plain.{Plain, Receiving, Sending, descriptor, first, notReceiving, notSending, receiving, sending}
 use Rattle.delivery.proofs.Queue.{flat}

@@ -3,7 +3,7 @@ use mathlib.Core.Path.{_≡_, refl, ap, _∙_}
 use mathlib.Core.List.{List, [], _∷_, _++_, map, append-nil}
 use Prim.Native.Nat.{ℕ}
 use lib.ListN.{length, getD, take}
-use Rattle.ring.specs.Ring.{stored}
+use Rattle.runs.specs.Buffer.{stored}
 use Rattle.delivery.specs.Demand.{Call, Result, Unreleased, answers, endedBy, held, publishedBy, receivedBy, result, wholes}
 use Rattle.delivery.specs.Operations.{Op, plainAnswer, plainEnd, plainRun, plainSeen}
 use Rattle.delivery.specs.Plain.{Answer, Plain, Sending, notReceiving, notSending, sending}

@@ -15,12 +15,13 @@ use Rattle.message.specs.Header.{isMessage, totalLength, wellFormed}
 use Rattle.message.proofs.Formed.{message-formed, message-length, message-long, message-short}
 use Rattle.ring.specs.Numbers.{marked, need, receiveDecision, receiveFound}
 use Rattle.channel.specs.Outcome.{Outcome}
-use Rattle.ring.specs.Ring.{window}
+use Rattle.runs.specs.Buffer.{window}
 use Rattle.channel.specs.State.{activeReceive, idle}
 use Rattle.channel.specs.Receive
-use Rattle.ring.proofs.Chains.{cases, ok}
+use Rattle.ring.proofs.Chains.{ok}
+use Rattle.message.proofs.Tests.{cases}
 use Rattle.channel.proofs.Fits.{busy-active-receive, busy-idle, idle-active-receive, idle-idle}
-use Rattle.ring.proofs.Ring.{window-append, window-at, window-length}
+use Rattle.runs.proofs.Ring.{window-append, window-at, window-length}
 use Rattle.delivery.specs.Plain.{Answer, Plain, Receiving, Sending, descriptor, first, notReceiving, notSending, receiving, sending}
 use Rattle.delivery.specs.Plain
 use Rattle.delivery.proofs.Invariant.{Inv, InvSend, bad, below-is, empty-receiving, entry-ok, found-receive, own-receive, plain, receiveState, receiverOf, senderOf, used-eq}

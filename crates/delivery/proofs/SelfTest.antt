@@ -10,8 +10,10 @@ use borrow.Author.Tests.{le-leb}
 use Rattle.message.specs.Header.{isMessage}
 use Rattle.message.proofs.Formed.{message-long, message-short}
 use Rattle.ring.specs.Numbers.{need}
-use Rattle.ring.specs.Ring.{allowed, stored}
-use Rattle.ring.proofs.Chains.{allowed-low, cases, ok}
+use Rattle.ring.specs.Ring.{allowed}
+use Rattle.runs.specs.Buffer.{stored}
+use Rattle.ring.proofs.Chains.{allowed-low, ok}
+use Rattle.message.proofs.Tests.{cases}
 use Rattle.delivery.specs.Loopback.{ComesBack, Loopback, comesBack, firstReceive, firstSend, loop}
 use Rattle.delivery.specs.Operations.{Seen, plainRun, plainSeen, receiveWhole, run, seen, sendWhole}
 use Rattle.delivery.specs.Plain.{Answer, Plain, notReceiving, notSending}

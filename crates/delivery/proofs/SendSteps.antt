@@ -15,12 +15,14 @@ use Rattle.message.specs.Header.{isMessage, totalLength}
 use Rattle.message.proofs.Formed.{message-formed, message-length, message-long, message-short}
 use Rattle.ring.specs.Numbers.{marked, need, sendDecision, sendFound}
 use Rattle.channel.specs.Outcome.{Outcome}
-use Rattle.ring.specs.Ring.{free, head, tail, window}
+use Rattle.ring.specs.Ring.{free, head, tail}
+use Rattle.runs.specs.Buffer.{window}
 use Rattle.channel.specs.State.{activeSend, idle}
 use Rattle.channel.specs.Send
-use Rattle.ring.proofs.Chains.{cases, ok}
+use Rattle.ring.proofs.Chains.{ok}
+use Rattle.message.proofs.Tests.{cases}
 use Rattle.channel.proofs.Fits.{busy-active-send, busy-idle, idle-active-send, idle-idle}
-use Rattle.ring.proofs.Ring.{apart, window-append, window-set}
+use Rattle.runs.proofs.Ring.{apart, window-append, window-set}
 use Rattle.delivery.specs.Plain.{Answer, Plain, Receiving, Sending, descriptor, first, notReceiving, notSending, receiving, sending}
 use Rattle.delivery.specs.Plain
 use Rattle.delivery.proofs.Invariant.{AllMessages, Inv, InvReceive, bad, below-is, empty-receiving, entry-ok, found-send, n-low, own-send, plain, receiveState, receiverOf, sendState, senderOf, used-eq}

@@ -10,7 +10,8 @@ use lib.ListN.{length}
 use Rattle.ring.specs.Numbers.{need}
 use Rattle.channel.specs.Opening.{openBy, openNumber, opening}
 use Rattle.channel.specs.Outcome.{Outcome}
-use Rattle.ring.specs.Ring.{allowed, window}
+use Rattle.ring.specs.Ring.{allowed}
+use Rattle.runs.specs.Buffer.{window}
 use Rattle.ring.proofs.Chains.{allowed-low}
 use Rattle.delivery.specs.Operations.{Channel, Op, after, begun, end, next, outcome, plainAnswer, plainEnd, plainRun, plainSeen, receiveLook, receiveMove, receivePublish, receiveWhole, run, seen, sendLook, sendMove, sendPublish, sendWhole}
 use Rattle.delivery.specs.Plain.{Answer, Plain, descriptor, fresh}

@@ -14,10 +14,11 @@ use Rattle.message.specs.Header.{isMessage, totalLength}
 use Rattle.message.proofs.Formed.{message-length, message-long}
 use Rattle.ring.specs.Numbers.{need}
 use Rattle.channel.specs.Outcome.{Outcome}
-use Rattle.ring.specs.Ring.{allowed, stored, window}
+use Rattle.ring.specs.Ring.{allowed}
+use Rattle.runs.specs.Buffer.{stored, window}
 use Rattle.channel.specs.Send
-use Rattle.ring.proofs.Chains.{cases}
-use Rattle.ring.proofs.Ring.{apart, window-mod}
+use Rattle.message.proofs.Tests.{cases}
+use Rattle.runs.proofs.Ring.{apart, window-mod}
 use Rattle.delivery.specs.Demand.{Call, Demand3, Serial, StoresAt, Unreleased, answers, cut, ended, endedBy, held, midway, published, publishedBy, received, receivedBy, result, unread, wholes}
 use Rattle.delivery.specs.Operations.{Channel, Op, Seen, after, end, plainAnswer, plainEnd, plainRun, plainSeen, receiveLook, receiveMove, receivePublish, receiveWhole, run, sendLook, sendMove, sendPublish, sendWhole}
 use Rattle.delivery.specs.Plain.{Answer, Plain, Receiving, Sending, descriptor, fresh, notSending, sending}

@@ -8,7 +8,8 @@ use lib.Dec.{eqb}
 use Rattle.channel.specs.Outcome.{Outcome}
 use Rattle.ring.specs.Ring.{good}
 use Rattle.channel.specs.Receive
-use Rattle.ring.proofs.Chains.{cases, ok}
+use Rattle.ring.proofs.Chains.{ok}
+use Rattle.message.proofs.Tests.{cases}
 use Rattle.delivery.specs.Plain.{Answer, Plain, Receiving, descriptor, first, notReceiving, receiving}
 use Rattle.delivery.specs.Plain
 use Rattle.delivery.proofs.Invariant.{Inv, bad, entry-ok, plain, receiveState, receiverOf}

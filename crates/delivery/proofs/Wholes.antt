@@ -11,8 +11,8 @@ use lib.Seq.{take-all}
 use lib.Dec.{leb, eqb}
 use Rattle.message.specs.Header.{isMessage}
 use Rattle.ring.specs.Numbers.{need}
-use Rattle.ring.specs.Ring.{stored}
-use Rattle.ring.proofs.Ring.{stored-take}
+use Rattle.runs.specs.Buffer.{stored}
+use Rattle.runs.proofs.Ring.{stored-take}
 use Rattle.delivery.specs.Plain.{Answer, Plain, Receiving, Sending, first, notReceiving, notSending, receiving, sending}
 use Rattle.delivery.specs.Plain
 use Rattle.delivery.proofs.Invariant.{plain}

@@ -7,7 +7,8 @@ use mathlib.Core.List.{List, [], _∷_, _++_, map}
 use lib.ListN.{length, getD, take, drop}
 use lib.Dec.{eqb}
 use Rattle.message.specs.Header.{totalLength}
-use Rattle.ring.specs.Ring.{allowed, head, tail, used, window}
+use Rattle.ring.specs.Ring.{allowed, head, tail, used}
+use Rattle.runs.specs.Buffer.{window}
 use Rattle.channel.specs.Outcome.{Outcome}
 use Rattle.channel.specs.Opening.{opening}
 use Rattle.channel.specs.Send

@@ -10,7 +10,8 @@ use lib.Dec.{eqb}
 use borrow.Author.Tests.{eqb-true}
 use Rattle.ring.specs.Ring.{HEAD, STATUS, head, tail, status}
 use Rattle.ring.specs.Numbers.{need}
-use Rattle.ring.proofs.Chains.{cases, true-false}
+use Rattle.ring.proofs.Chains.{true-false}
+use Rattle.message.proofs.Tests.{cases}
 use Rattle.refusals.specs.Refusals.{leaves, oneOf, reserved, unreserved}
 
 -- a chain answers one of the list where its first test's number and the rest of it do

@@ -13,7 +13,7 @@ use Rattle.channel.specs.Opening.{openBy, openNumber, opening}
 use Rattle.ring.specs.Ring.{HEAD}
 use Rattle.channel.specs.State.{State, idle, idleAt}
 use Rattle.channel.specs.Receive
-use Rattle.ring.proofs.Chains.{cases}
+use Rattle.message.proofs.Tests.{cases}
 use Rattle.channel.proofs.ReceiveAtOnce.{receive-at-once, receiveOutcome}
 use Rattle.refusals.specs.Refusals.{OpeningSays, Says, comesBack, goesOn, leaves, none, noOutput, oneOf, openings, receiveLooks, receivePublishes, wholeReceives}
 use Rattle.refusals.proofs.Laws.{Alike, mild-none, mild-set, not-one, one-need}

@@ -7,7 +7,7 @@ use lib.Dec.{eqb}
 use borrow.Author.Tests.{eqb-true, ne-eqb}
 use Rattle.channel.specs.State.{State}
 use Rattle.channel.specs.Outcome.{Outcome}
-use Rattle.ring.proofs.Chains.{cases}
+use Rattle.message.proofs.Tests.{cases}
 use Rattle.refusals.specs.Refusals.{Refused, Says, comesBack, leaves, oneOf, past, reserved, seen, unreserved}
 use Rattle.refusals.proofs.Laws.{Alike, Mild, alike, mild-leaves}
 

@@ -8,7 +8,8 @@ use lib.ListN.{length, getD, set}
 use lib.Dec.{eqb}
 use Rattle.ring.specs.AtOnce.{sendBy}
 use Rattle.ring.specs.Numbers.{entry, found, marked, need, numberAt, sendDecision, sendFound}
-use Rattle.ring.specs.Ring.{TAIL, stored}
+use Rattle.ring.specs.Ring.{TAIL}
+use Rattle.runs.specs.Buffer.{stored}
 use Rattle.channel.specs.State.{State, idleAt}
 use Rattle.channel.specs.Send
 use Rattle.channel.proofs.SendAtOnce.{send-at-once, sendOutcome}

@@ -5,7 +5,7 @@ use mathlib.Core.Bool.{Bool, true, false}
 use native.Mathlib.Omega.{arith}
 use lib.Dec.{eqb}
 use borrow.Author.Tests.{eqb-true, eq-eqb, leb-true}
-use Rattle.message.proofs.Tests.{and-l, and-r}
+use Rattle.message.proofs.Tests.{and-l, and-r, cases}
 use Rattle.ring.specs.Numbers.{entry, need}
 use Rattle.ring.specs.Ring.{allowed}
 
@@ -18,11 +18,6 @@ tested t c e = rw e
 pub ok : {t : Bool} {r : ℕ} (c : ℕ) → t ≡ true → need t c r ≡ r
 unfolding need
 ok c e = rw e
-
--- by cases on a test
-pub cases : {X : Type 0} (t : Bool) → (t ≡ true → X) → (t ≡ false → X) → X
-cases true f g = f refl
-cases false f g = g refl
 
 -- true and false differ
 pub true-false : {X : Type 0} → _≡_ {A = Bool} true false → X

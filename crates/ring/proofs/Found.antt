@@ -7,11 +7,11 @@ use native.Mathlib.Nat.{mod-lt, mod-eq-of-lt, mod-eq-sub-mod, add-mod-right}
 use lib.Dec.{eqb, leb, ltb}
 use borrow.Author.Tests.{eqb-true, ltb-true, lt-ltb, le-ltb, le-leb, lt-leb, eq-eqb, not-true}
 use Rattle.message.specs.Header.{totalLength}
-use Rattle.message.proofs.Tests.{and-l, and-r}
-use Rattle.ring.specs.Ring.{used, past}
+use Rattle.message.proofs.Tests.{and-l, and-r, cases}
+use Rattle.ring.specs.Ring.{used}
 use Rattle.ring.specs.Numbers.{need, found, receiveFound}
 use Rattle.ring.specs.Private.{pendingNumber}
-use Rattle.ring.proofs.Chains.{cases, passed, passed-rest}
+use Rattle.ring.proofs.Chains.{passed, passed-rest}
 
 module _ (n hd tl : ℕ) where
   -- the dwords in use where TAIL is not below HEAD
@@ -32,10 +32,6 @@ module _ (n hd tl : ℕ) where
   pub used-lt : hd < n → used n hd tl < n
   unfolding used
   used-lt l = mod-lt (tl + n - hd) (omega arith)
-
--- an offset that goes around the end of the ring, at most once
-pub past-round : (n own k : ℕ) → own < n → k ≤ n → n ≤ own + k → (own + k) % n ≡ own + k - n
-past-round n own k l h e = rw (mod-eq-sub-mod e) (mod-eq-of-lt (omega arith))
 
 -- what a look has that finds none of 6, 7 and 8
 pub record NoneFound (n own word status hd tl : ℕ) : Type 0 where
@@ -121,21 +117,3 @@ module _ (n own st hd tl h : ℕ) where
     pub whole : totalLength h ≤ used n hd tl → receiveFound n own st hd tl h ≡ 0
     unfolding need
     whole l = by-header ∙ rw (le-leb (totalLength h) (used n hd tl) l)
-
--- the offset past an own offset: the paper's where there is such a ring, else 0
-module _ (n own k : ℕ) where
-  pub past-is : own < n → k ≤ n → n ≤ 16384 → past n own k ≡ (own + k) % n
-  unfolding past
-  past-is a b c = rw (lt-ltb own n a, le-leb k n b, le-leb n 16384 c)
-
-  pub past-large : 16384 < n → past n own k ≡ 0
-  unfolding past
-  past-large h = cases (ltb own n) (λ a. cases (leb k n) (λ b. rw (a, b, lt-leb n 16384 h)) (λ b. rw (a, b))) (λ a. rw a)
-
-  pub past-outside : n ≤ own → past n own k ≡ 0
-  unfolding past
-  past-outside h = rw (le-ltb own n h)
-
-  pub past-long : n < k → past n own k ≡ 0
-  unfolding past
-  past-long h = cases (ltb own n) (λ a. rw (a, lt-leb k n h)) (λ a. rw a)

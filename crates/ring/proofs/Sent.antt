@@ -13,7 +13,8 @@ use Rattle.ring.specs.Private.{PlacedBy}
 use Rattle.ring.specs.declared.sending.Ended.{Ended}
 use Rattle.ring.specs.Numbers.{found, marked, need, numberAt, sendFound, sendDecision}
 use Rattle.ring.specs.Ring.{TAIL, free, head, status, tail, used}
-use Rattle.ring.proofs.Chains.{Entered, cases, entered, entered-fits, entered-rest, passed, passed-rest}
+use Rattle.ring.proofs.Chains.{Entered, entered, entered-fits, entered-rest, passed, passed-rest}
+use Rattle.message.proofs.Tests.{cases}
 use Rattle.ring.proofs.Found.{found-rest, none-found}
 
 -- what an accepted look of a send has: for a state that fits, an own tail, and a ring of n dwords

@@ -13,10 +13,12 @@ use Rattle.ring.specs.AtOnce.{ended, messageAt, receive, receiveBy, rece
 use Rattle.ring.specs.Private.{TakenBy}
 use Rattle.ring.specs.declared.sending.Ended.{Ended}
 use Rattle.ring.specs.Numbers.{entry, found, foundWith, marked, need, receiveFound, takeNumber}
-use Rattle.ring.specs.Ring.{HEAD, allowed, head, status, tail, used, window}
-use Rattle.ring.proofs.Chains.{Entered, cases, entered, entered-fits, entered-rest, passed, passed-rest, true-false}
+use Rattle.ring.specs.Ring.{HEAD, allowed, head, status, tail, used}
+use Rattle.runs.specs.Buffer.{window}
+use Rattle.ring.proofs.Chains.{Entered, entered, entered-fits, entered-rest, passed, passed-rest, true-false}
+use Rattle.message.proofs.Tests.{cases}
 use Rattle.ring.proofs.Found.{found-rest, none-found}
-use Rattle.ring.proofs.Ring.{window-at}
+use Rattle.runs.proofs.Ring.{window-at}
 
 -- what a look of a receive finds is never 13
 chain-13 : (a b c d e : Bool) → eqb (need a 6 (need b 7 (need c 8 (need d 9 (need e 11 0))))) 13 ≡ false

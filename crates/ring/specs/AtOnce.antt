@@ -6,7 +6,8 @@ use mathlib.Core.List.{List, [], _++_}
 use lib.ListN.{length, getD, drop, set}
 use lib.Dec.{eqb}
 use Rattle.message.specs.Header.{totalLength, wellFormed}
-use Rattle.ring.specs.Ring.{HEAD, TAIL, window, stored}
+use Rattle.ring.specs.Ring.{HEAD, TAIL}
+use Rattle.runs.specs.Buffer.{window, stored}
 use Rattle.ring.specs.Numbers.{need, marked, numberAt, takeNumber}
 use Rattle.ring.specs.declared.receiving.Seen.{Seen}
 use Rattle.ring.specs.declared.sending.Ended.{Ended}

@@ -7,7 +7,8 @@ use lib.ListN.{length, drop}
 use lib.Dec.{eqb}
 use Rattle.ring.specs.declared.numbers.InUse.{InUse}
 use Rattle.ring.specs.declared.sending.Ended.{Ended}
-use Rattle.ring.specs.Ring.{stored, used}
+use Rattle.ring.specs.Ring.{used}
+use Rattle.runs.specs.Buffer.{stored}
 use Rattle.ring.specs.Numbers.{found, need}
 use Rattle.ring.specs.AtOnce.{lengthAt, messageAt, receiveNumber}
 

@@ -1,9 +1,9 @@
 -- The buffer and its descriptor (document 01, 'The channel').
-use Prim.Native.Nat.{ℕ, zero, suc, _+_, _-_, _%_}
-use mathlib.Core.Bool.{Bool, _&&_, cond}
-use mathlib.Core.List.{List, [], _∷_, _++_}
-use lib.ListN.{length, getD, set, drop}
-use lib.Dec.{eqb, leb, ltb}
+use Prim.Native.Nat.{ℕ, _+_, _-_, _%_}
+use mathlib.Core.Bool.{Bool, _&&_}
+use mathlib.Core.List.{List}
+use lib.ListN.{getD}
+use lib.Dec.{eqb, leb}
 
 -- 'The buffer is N dwords, N a multiple of 1,024 from 1,024 to 16,384'
 unfoldable pub allowed : ℕ → Bool
@@ -48,22 +48,3 @@ underflow = 2
 
 abbrev pub mismatch : ℕ
 mismatch = 4
-
--- k dwords of a buffer of n from place i on, around its end
-unfoldable pub window : List ℕ → ℕ → ℕ → ℕ → List ℕ
-window b n i zero = []
-window b n i (suc k) = getD b (i % n) 0 ∷ window b n (suc i) k
-
--- a buffer of n with dwords stored one after another from place i on, around its end
-unfoldable pub stored : List ℕ → ℕ → ℕ → List ℕ → List ℕ
-stored b n i [] = b
-stored b n i (x ∷ xs) = stored (set b (i % n) x) n (suc i) xs
-
--- ours: dwords laid at the front of others, the rest unchanged; where there is no room for them, nothing is laid
-unfoldable pub laid : List ℕ → List ℕ → List ℕ
-laid xs out = cond (leb (length xs) (length out)) (xs ++ drop (length xs) out) out
-
--- ours, for code that asks nothing of its caller: the offset k dwords past an own offset of a ring of n, which is (own + k) mod n; 0 where own is no offset of
--- the ring, k exceeds it, or no ring is so long
-unfoldable pub past : ℕ → ℕ → ℕ → ℕ
-past n own k = cond (ltb own n && leb k n && leb n 16384) ((own + k) % n) 0

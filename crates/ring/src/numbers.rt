@@ -1,7 +1,7 @@
 // The decisions that the calls share, as functions of plain numbers.
 ghost use mathlib.Core.Path.{_≡_};
 ghost use Prim.Native.Nat.{_<_};
-ghost use Rattle.ring.specs.Ring.{allowed, used, past};
+ghost use Rattle.ring.specs.Ring.{allowed, used};
 ghost use Rattle.ring.specs.Numbers.{need, entry, found, sendFound};
 ghost use Rattle.ring.specs.Private.{pendingNumber, pendingBy};
 
@@ -101,21 +101,4 @@ pub(crate) fn pending(n: usize, own: usize, status: usize, head: usize, tail: us
         return InUse { code: 11, used: 0 };
     }
     InUse { code: 0, used }
-}
-
-// The offset k dwords past an own offset, around the end of a ring of n; 0 where there is no such ring.
-pub fn past(own: usize, k: usize, n: usize) -> usize
-    ensures { λ r. ⌜ (r ≡ past n own k) × (r < 16384) ⌝ }
-{
-    if 16384 < n {
-        return 0;
-    }
-    if n <= own {
-        return 0;
-    }
-    if n < k {
-        return 0;
-    }
-    let sum = own + k;
-    if sum < n { sum } else { sum - n }
 }

@@ -5,7 +5,8 @@ ghost use mathlib.Core.Bool.{true, _||_, cond};
 ghost use Prim.Native.Nat.{_≤_, _<_, _^_};
 ghost use lib.Dec.{eqb};
 ghost use lib.ListN.{length, getD, set};
-ghost use Rattle.ring.specs.Ring.{HEAD, window};
+ghost use Rattle.ring.specs.Ring.{HEAD};
+ghost use Rattle.runs.specs.Buffer.{window};
 ghost use Rattle.ring.specs.Numbers.{foundWith, marked, receiveDecision, takeNumber};
 ghost use Rattle.ring.specs.AtOnce.{seen, ended, receive};
 ghost use Rattle.ring.specs.Private.{TakenBy};
@@ -16,12 +17,12 @@ use crate::memory::mark;
 use crate::memory::publish_head;
 use crate::memory::wide;
 use crate::numbers::entry;
-use crate::numbers::past;
 use crate::numbers::pending;
 use crate::numbers::refuse;
-use crate::runs::lay_message;
 use crate::sending::Ended;
 use message::dword_at;
+use runs::lay_message;
+use runs::past;
 
 // What a look answers: the number, and where that is 0 the header that it judged.
 pub struct Seen {

@@ -19,8 +19,8 @@ use crate::memory::wide;
 use crate::numbers::entry;
 use crate::numbers::refuse;
 use crate::numbers::send_found;
-use crate::runs::store_message;
 use message::dword_at;
+use runs::store_message;
 
 // What a whole call answers: the number, L, and the own offset afterwards.
 pub struct Ended {

@@ -11,7 +11,7 @@ use lib.Seq.{drop-drop, getD-drop}
 use borrow.Rule.Slice.PartMut.{midOf, putMid}
 use lib.Dec.{eqb}
 use borrow.Author.Tests.{eqb-true}
-use Rattle.message.proofs.Tests.{and-l, and-r}
+use Rattle.message.proofs.Tests.{and-l, and-r, cases}
 use Rattle.channel.specs.State.{State, state, countsOf, counted, zeros, allZero, idleAt, idle, activeSend, activeReceive}
 use Rattle.ring.specs.AtOnce.{AtOnce, ended, send, sendBy, receive, receiveBy, receiveNumber, lengthAt}
 use Rattle.ring.specs.declared.sending.Ended.{Ended}
@@ -21,8 +21,8 @@ use Rattle.ring.specs.Numbers.{marked, numberAt, takeNumber}
 use Rattle.channel.specs.Send
 use Rattle.channel.specs.Receive
 use Rattle.side.specs.Words.{stateOf, outcome}
-use Rattle.ring.proofs.Straight.{drop-replicate, put-front}
-use Rattle.ring.proofs.Chains.{cases, true-false}
+use Rattle.runs.proofs.Straight.{drop-replicate, put-front}
+use Rattle.ring.proofs.Chains.{true-false}
 use Rattle.ring.proofs.Taken.{taken-has, take-not-13}
 use Rattle.channel.proofs.ReceiveAtOnce.{receive-method}
 use Rattle.channel.proofs.SendAtOnce.{send-method}

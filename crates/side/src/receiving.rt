@@ -3,7 +3,7 @@ ghost use mathlib.Core.Path.{_≡_};
 ghost use mathlib.Core.List.{List, [], _++_};
 ghost use Prim.Native.Nat.{ℕ, _+_, _%_, _≤_, _<_};
 ghost use lib.ListN.{length, getD, take, drop};
-ghost use Rattle.ring.specs.Ring;
+ghost use Rattle.runs.specs.Buffer;
 ghost use Rattle.channel.specs.Receive;
 ghost use Rattle.side.specs.Words.{stateOf, outcome};
 use crate::words::counts_of;
@@ -12,8 +12,8 @@ use crate::words::rest_at;
 use channel::publish_number;
 use channel::receiving_number;
 use message::dword_at;
-use ring::past;
 use ring::refuse;
+use runs::past;
 
 // What a receive answers: the number, and the length L of the message laid, 0 where none is.
 pub struct Laid {
@@ -85,10 +85,10 @@ fn lay(
     n: usize,
 ) -> usize
     requires { ⌜ (length (now w) ≡ 260) × (2 ≤ len) × (len ≤ 256) × (256 ≤ length (now out)) × (header ≡ getD (now w) 4 0) × (second ≡ getD (now w) 5 0) ⌝ }
-    ensures { λ r. ⌜ (now (out .exit) ≡ take len (stateOf (now (w .entry)) .copy) ++ drop len (now (out .entry))) × (r ≡ Ring.past n own len) × (r < 16384) ⌝ }
+    ensures { λ r. ⌜ (now (out .exit) ≡ take len (stateOf (now (w .entry)) .copy) ++ drop len (now (out .entry))) × (r ≡ Buffer.past n own len) × (r < 16384) ⌝ }
 {
     let copy = &w[4..];
-    ring::lay_copy(out, header, second, &copy[2..len], own, n)
+    runs::lay_copy(out, header, second, &copy[2..len], own, n)
 }
 
 // A publish over a ring of n dwords, which it is not lent: the header cannot be read again.

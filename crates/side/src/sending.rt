@@ -12,7 +12,7 @@ use crate::words::load;
 use crate::words::rest_at;
 use channel::sending_number;
 use message::dword_at;
-use ring::past;
+use runs::past;
 
 // A whole send.
 pub fn send(w: &mut [u32; 260], desc: &mut [u32], buf: &mut [u32], msg: &[u32]) -> u32

@@ -64,7 +64,7 @@ fn fill_copy(w: &mut [u32], header: u32, word: u32, rest: &[u32])
     requires { ⌜ 4 + (2 + length (now rest)) ≤ length (now w) ⌝ }
     ensures { λ _. ⌜ now (w .exit) ≡ take 4 (now (w .entry)) ++ ((header ∷ word ∷ now (rest .entry)) ++ drop (length (header ∷ word ∷ now (rest .entry))) (drop 4 (now (w .entry)))) ⌝ }
 {
-    ring::lay(&mut w[4..], header, word, rest);
+    runs::lay(&mut w[4..], header, word, rest);
 }
 
 // Makes the words of an idle state active with a message.

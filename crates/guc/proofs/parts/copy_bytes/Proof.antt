@@ -6,7 +6,7 @@ use native.Mathlib.Omega.{arith}
 use lib.ListN.{length, take, drop, length-set}
 use lib.Seq.{take-length}
 use denote.Ref.{now}
-use Rattle.ring.proofs.Straight.{copied-more}
+use Rattle.runs.proofs.Straight.{copied-more}
 use borrow.Author.Needs.{needs}
 use Rattle.guc.proofs.parts.copy_bytes.Statement.{statement}
 use Rattle.guc.proofs.parts.copy_bytes.Tie as tie

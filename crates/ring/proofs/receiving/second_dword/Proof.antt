@@ -4,9 +4,9 @@ use native.Mathlib.Omega.{arith}
 use lib.ListN.{length, List·getD-eq-default}
 use denote.Ref.{now}
 use borrow.Author.Needs.{needs}
-use Rattle.ring.specs.Ring.{window}
-use Rattle.ring.proofs.Found.{past-is}
-use Rattle.ring.proofs.Ring.{window-at, window-length}
+use Rattle.runs.specs.Buffer.{window}
+use Rattle.runs.proofs.Offsets.{past-is}
+use Rattle.runs.proofs.Ring.{window-at, window-length}
 use Rattle.ring.proofs.receiving.second_dword.Statement.{statement}
 use Rattle.ring.proofs.receiving.second_dword.Tie as tie
 

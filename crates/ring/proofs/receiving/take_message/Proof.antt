@@ -9,7 +9,8 @@ use borrow.Author.Needs.{needs}
 use Rattle.message.proofs.Formed.{well-formed}
 use Rattle.ring.specs.Numbers.{takeNumber}
 use Rattle.ring.specs.declared.receiving.Seen.{Seen}
-use Rattle.ring.proofs.Found.{past-is}
+use Rattle.runs.proofs.Offsets.{past-is}
+use Rattle.runs.proofs.Straight.{laid-there-from}
 use Rattle.ring.proofs.Taken.{Taken, laid-message, taken-formed, taken-has, taken-malformed, taken-refused}
 use Rattle.ring.proofs.receiving.take_message.Statement.{statement}
 use Rattle.ring.proofs.receiving.take_message.Tie as tie
@@ -40,13 +41,6 @@ long c =
     let w = well-formed _ _ (sym (c .before .well-formed .ensures) ∙ c .if2 .taken) in
     omega (arith, w .low, c .before .before .before .total-length .ensures)
 
-lay-message-requires : tie.Need-lay-message-requires
-lay-message-requires c κs =
-    let e = c .before .before .before .before .before in
-    let h = has e in
-    let t = c .before .before .before .before .total-length .ensures in
-    (long (c .before), omega (arith, h .output-long, t), omega (arith, h .short, t, header-is e), h .below, h .enters .high)
-
 returns-2 : tie.Need-returns-2
 returns-2 c =
     let formed = c .before .before .before .before in
@@ -58,7 +52,10 @@ returns-2 c =
     let f = sym (formed .before .well-formed .ensures) ∙ formed .if2 .taken in
     let m = laid-message (now (a .buf)) (length (now (a .buf))) (a .own) _ _ _ (now (a .out)) (has looked .below) (long formed) eh es in
     let l = c .before .before .lay-message .ensures in
-    taken-formed (a .fits) (a .own) (now (a .out)) (now (a .desc)) (now (a .buf)) _ _ _ eh el es (zero looked) _ _ f (l .1) (l .2) (l .0 ∙ m)
+    let h = has looked in
+    let q = laid-there-from (now (a .buf)) (a .own) _ _ _ (now (a .out)) (h .below) (long formed) (omega (arith, h .short, el, eh)) (h .enters .high) (omega (arith, h .output-long, el)) in
+    let p = l .1 ∙ past-is _ _ _ (h .below) (omega (arith, h .short, el, eh)) (h .enters .high) in
+    taken-formed (a .fits) (a .own) (now (a .out)) (now (a .desc)) (now (a .buf)) _ _ _ eh el es (zero looked) _ _ f p (l .2) (l .0 ∙ q ∙ m)
 
 returns-3 : tie.Need-returns-3
 returns-3 c =
@@ -82,7 +79,7 @@ take-message-spec =
     (λ c κs. search needs)
     second-dword-requires
     (λ c κs. search needs)
-    lay-message-requires
+    (λ c κs. search needs)
     (λ c. search needs)
     returns-2
     (λ c κs. search needs)

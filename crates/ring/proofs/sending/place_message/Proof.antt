@@ -10,7 +10,8 @@ use borrow.Author.Needs.{needs}
 use Rattle.message.proofs.Formed.{message-long}
 use Rattle.ring.specs.Numbers.{numberAt}
 use Rattle.ring.proofs.Sent.{Accepted, accepted, placed-refused}
-use Rattle.ring.proofs.Straight.{two-and-rest}
+use Rattle.runs.proofs.Straight.{stored-there, two-and-rest}
+use Rattle.runs.proofs.Offsets.{past-is}
 use Rattle.ring.proofs.sending.place_message.Statement.{statement}
 use Rattle.ring.proofs.sending.place_message.Tie as tie
 
@@ -36,20 +37,18 @@ sub-store-message c = message-long _ (has (c .before) .is-message)
 part-store-message-start : tie.Need-part-store-message-start
 part-store-message-start c = message-long _ (has (c .before) .is-message)
 
-store-message-requires : tie.Need-store-message-requires
-store-message-requires c κs =
-    let h = has (c .before .before) in
-    (h .below, simp (length-take, length-drop) (omega (arith, h .room, message-long _ (h .is-message))), h .enters .high)
-
 returns-2 : tie.Need-returns-2
 returns-2 c =
     let looked = c .before .before .before .before .before in
     let m = now (looked .before .before .before .before .before .before .before .args .msg) in
     let s = c .before .before .store-message .ensures in
     let two = message-long m (has looked .is-message) in
-    let parts = rw (looked .before .before .dword-at2 .ensures, looked .before .before .before .dword-at .ensures, two-and-rest m two) at (s .0) in
+    let h = has looked in
     let l : 2 + length (take (length m - 2) (drop 2 m)) ≡ length m = simp (length-take, length-drop) (omega arith) in
-    rw (zero looked) (record { code = refl; no-len = refl; own-tail = rw l at (s .1); small = λ _. s .2; ring = parts })
+    let parts = rw (looked .before .before .dword-at2 .ensures, looked .before .before .before .dword-at .ensures, two-and-rest m two) at (s .0) in
+    let ring = parts ∙ stored-there _ _ m (h .below) (omega (arith, h .room)) in
+    let tail = rw l at (s .1) ∙ past-is _ _ _ (h .below) (omega (arith, h .room)) (h .enters .high) in
+    rw (zero looked) (record { code = refl; no-len = refl; own-tail = tail; small = λ _. s .2; ring = ring })
 
 pub place-message-spec : {M : Type 1} → statement M
 place-message-spec =
@@ -62,6 +61,6 @@ place-message-spec =
     sub-store-message
     part-store-message-start
     (λ c. search needs)
-    store-message-requires
+    (λ c κs. search needs)
     (λ c. search needs)
     returns-2)

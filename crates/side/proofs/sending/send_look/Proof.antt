@@ -10,7 +10,7 @@ use borrow.Author.Needs.{needs}
 use borrow.Author.Tests.{ne-eqb}
 use Rattle.message.proofs.Formed.{message-long, message-short}
 use Rattle.ring.proofs.Sent.{Accepted, accepted}
-use Rattle.ring.proofs.Straight.{two-and-rest}
+use Rattle.runs.proofs.Straight.{two-and-rest}
 use Rattle.channel.specs.Send
 use Rattle.channel.specs.State.{idle}
 use Rattle.channel.specs.declared.state.Counts.{Counts}

@@ -7,7 +7,7 @@ use lib.ListN.{length, length-take, length-drop}
 use borrow.Rule.Slice.PartMut.{midOf}
 use denote.Ref.{now}
 use borrow.Author.Needs.{needs}
-use Rattle.ring.proofs.Straight.{laid-there}
+use Rattle.runs.proofs.Straight.{laid-there}
 use Rattle.side.proofs.InWords.{put-copy}
 use Rattle.side.proofs.words.fill_copy.Statement.{statement}
 use Rattle.side.proofs.words.fill_copy.Tie as tie

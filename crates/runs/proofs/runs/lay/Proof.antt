@@ -5,9 +5,9 @@ use native.Mathlib.Omega.{arith}
 use lib.ListN.{length}
 use borrow.Author.Needs.{needs}
 use denote.Ref.{now}
-use Rattle.ring.proofs.Straight.{laid-none, laid-run}
-use Rattle.ring.proofs.runs.lay.Statement.{statement}
-use Rattle.ring.proofs.runs.lay.Tie as tie
+use Rattle.runs.proofs.Straight.{laid-none, laid-run}
+use Rattle.runs.proofs.runs.lay.Statement.{statement}
+use Rattle.runs.proofs.runs.lay.Tie as tie
 
 returns : tie.Need-returns
 returns c =

@@ -1,4 +1,4 @@
--- `runs::lay_message` meets its contract: behind the two dwords that are stored lies the run that is read. Assumes nothing.
+-- `runs::lay_rest` meets its contract: behind the two dwords that are stored lies the run that is read. Assumes nothing.
 use Prim.Native.Nat.{_+_, _-_, _%_, _<_}
 use mathlib.Core.Path.{_≡_, _∙_}
 use native.Mathlib.Nat.{mod-lt}
@@ -7,10 +7,10 @@ use lib.ListN.{length, set, length-set, length-take, length-drop}
 use borrow.Author.Needs.{needs}
 use borrow.Rule.Slice.PartMut.{same-len-mid}
 use denote.Ref.{now}
-use Rattle.ring.proofs.Found.{past-is}
-use Rattle.ring.proofs.Straight.{laid-behind}
-use Rattle.ring.proofs.runs.lay_message.Statement.{statement}
-use Rattle.ring.proofs.runs.lay_message.Tie as tie
+use Rattle.runs.proofs.Offsets.{past-is}
+use Rattle.runs.proofs.Straight.{laid-behind}
+use Rattle.runs.proofs.runs.lay_rest.Statement.{statement}
+use Rattle.runs.proofs.runs.lay_rest.Tie as tie
 
 slice-write-out-2 : tie.Need-slice-write-out-2
 slice-write-out-2 c = simp length-set (omega arith)
@@ -25,21 +25,20 @@ load-run-requires c κs =
 
 same-length : tie.Need-same-length
 same-length c =
-    let a = c .before .before .before .before .before .before .before .before .args in
+    let a = c .before .before .before .before .before .before .before .args in
     let out = set (set (now (a .out)) 0 (a .header)) 1 (a .second) in
     let l : length out ≡ length (now (a .out)) = simp length-set in
-    same-len-mid 2 (a .len - 2) out (c .before .before .before .load-run .last .0) (c .before .before .before .load-run .kept .0) ∙ l
+    same-len-mid 2 (a .len - 2) out (c .before .before .load-run .last .0) (c .before .before .load-run .kept .0) ∙ l
 
 returns : tie.Need-returns
 returns c =
-    let a = c .before .before .before .before .before .before .before .before .args in
+    let a = c .before .before .before .before .before .before .before .args in
     let n = length (now (a .buf)) in
-    let e = c .before .before .before .before .before .past .ensures .0 ∙ past-is n (a .own) 2 (omega arith) (omega arith) (omega arith) in
-    let l = laid-behind (now (a .out)) (now (a .buf)) _ (a .header) (a .second) (a .len) (a .own) _ _ (omega arith) (omega arith) e (c .before .before .before .load-run .ensures) in
-    (l, c .past2 .ensures .0 ∙ past-is n (a .own) (a .len) (omega arith) (omega arith) (omega arith), c .past2 .ensures .1)
+    let e = c .before .before .before .before .past .ensures .0 ∙ past-is n (a .own) 2 (omega arith) (omega arith) (omega arith) in
+    laid-behind (now (a .out)) (now (a .buf)) _ (a .header) (a .second) (a .len) (a .own) _ _ (omega arith) (omega arith) e (c .before .before .load-run .ensures)
 
-pub lay-message-spec : {M : Type 1} → statement M
-lay-message-spec =
+pub lay-rest-spec : {M : Type 1} → statement M
+lay-rest-spec =
     tie.close
     (tie.spec
     (λ c. search needs)
@@ -49,6 +48,5 @@ lay-message-spec =
     (λ c. search needs)
     (λ c. search needs)
     load-run-requires
-    (λ c κs. search needs)
     same-length
     returns)

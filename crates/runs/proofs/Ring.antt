@@ -8,7 +8,7 @@ use native.Mathlib.Decide.{decLt}
 use native.Mathlib.Omega.{arith}
 use lib.ListN.{length, getD, set, take, length-set}
 use lib.Seq.{getD-set-other, take-suc, length-take-le}
-use Rattle.ring.specs.Ring.{stored, window}
+use Rattle.runs.specs.Buffer.{stored, window}
 
 -- the distance between two offsets that are less than N apart
 pub gap : (n r u : ℕ) → u < n → ((r + u) % n + n - r % n) % n ≡ u

@@ -7,10 +7,10 @@ use lib.ListN.{length}
 use borrow.Author.Needs.{needs}
 use borrow.Rule.Slice.PartMut.{putMid}
 use denote.Ref.{now}
-use Rattle.ring.specs.Ring.{window}
-use Rattle.ring.proofs.Straight.{window-one, window-two}
-use Rattle.ring.proofs.runs.load_run.Statement.{statement}
-use Rattle.ring.proofs.runs.load_run.Tie as tie
+use Rattle.runs.specs.Buffer.{window}
+use Rattle.runs.proofs.Straight.{window-one, window-two}
+use Rattle.runs.proofs.runs.load_run.Statement.{statement}
+use Rattle.runs.proofs.runs.load_run.Tie as tie
 
 returns : tie.Need-returns
 returns c =

@@ -1,11 +1,11 @@
--- `numbers::past` meets its contract: a sum below n is its own remainder, and another goes around once. Assumes nothing.
+-- `offset::past` meets its contract: a sum below n is its own remainder, and another goes around once. Assumes nothing.
 use mathlib.Core.Path.{_≡_, sym, _∙_}
 use native.Mathlib.Nat.{mod-eq-of-lt}
 use native.Mathlib.Omega.{arith}
 use borrow.Author.Needs.{needs}
-use Rattle.ring.proofs.Found.{past-is, past-large, past-outside, past-long, past-round}
-use Rattle.ring.proofs.numbers.past.Statement.{statement}
-use Rattle.ring.proofs.numbers.past.Tie as tie
+use Rattle.runs.proofs.Offsets.{past-is, past-large, past-outside, past-long, past-round}
+use Rattle.runs.proofs.offset.past.Statement.{statement}
+use Rattle.runs.proofs.offset.past.Tie as tie
 
 returns : tie.Need-returns
 returns c = (sym (past-large _ _ _ (c .if1 .taken)), omega arith)

@@ -8,9 +8,9 @@ use lib.ListN.{length, set, length-set}
 use borrow.Author.Needs.{needs}
 use borrow.Rule.Slice.PartMut.{same-len-mid}
 use denote.Ref.{now}
-use Rattle.ring.proofs.Straight.{stored-run, stored-second, stored-single, stored-wrapped, wraps}
-use Rattle.ring.proofs.runs.store_runs.Statement.{statement}
-use Rattle.ring.proofs.runs.store_runs.Tie as tie
+use Rattle.runs.proofs.Straight.{stored-run, stored-second, stored-single, stored-wrapped, wraps}
+use Rattle.runs.proofs.runs.store_runs.Statement.{statement}
+use Rattle.runs.proofs.runs.store_runs.Tie as tie
 
 returns : tie.Need-returns
 returns c =

@@ -2,11 +2,11 @@
 // are given by value and never read here; a run is lent just the places that it fills.
 ghost use mathlib.Core.Path.{_≡_};
 ghost use mathlib.Core.List.{_∷_, _++_};
-ghost use Prim.Native.Nat.{_+_, _-_, _%_, _≤_, _<_};
+ghost use Prim.Native.Nat.{_+_, _-_, _≤_, _<_};
 ghost use lib.ListN.{length, drop};
-ghost use Rattle.ring.specs.Ring;
-ghost use Rattle.ring.specs.Ring.{window, stored, laid};
-use crate::numbers::past;
+ghost use Rattle.runs.specs.Buffer;
+ghost use Rattle.runs.specs.Buffer.{window, stored, storedAt, laid, laidFrom};
+use crate::offset::past;
 
 // Fills dst with the dwords of src: a straight run, with no test inside.
 fn copy_run(dst: &mut [u32], src: &[u32])
@@ -64,7 +64,7 @@ pub fn lay_copy(
     own: usize,
     n: usize,
 ) -> usize
-    ensures { λ r. ⌜ (now (out .exit) ≡ laid (header ∷ word ∷ now (rest .entry)) (now (out .entry))) × (r ≡ Ring.past n own (2 + length (now (rest .entry)))) × (r < 16384) ⌝ }
+    ensures { λ r. ⌜ (now (out .exit) ≡ laid (header ∷ word ∷ now (rest .entry)) (now (out .entry))) × (r ≡ Buffer.past n own (2 + length (now (rest .entry)))) × (r < 16384) ⌝ }
 {
     lay(out, header, word, rest);
     past(own, 2 + rest.len(), n)
@@ -95,20 +95,21 @@ fn store_runs(buf: &mut [u32], at: usize, header: u32, word: u32, rest: &[u32])
     copy_run(&mut buf[0..left], &rest[first..]);
 }
 
-// Stores a message of these two dwords and the others in the ring from place `at` on, and returns the tail to publish. It is lent no descriptor, so
-// that TAIL cannot be published before the message is stored.
-pub(crate) fn store_message(
-    buf: &mut [u32],
-    at: usize,
-    header: u32,
-    word: u32,
-    rest: &[u32],
-) -> usize
-    requires { ⌜ (at < length (now buf)) × (2 + length (now rest) ≤ length (now buf)) × (length (now buf) ≤ 16384) ⌝ }
-    ensures { λ r. ⌜ (now (buf .exit) ≡ stored (now (buf .entry)) (length (now (buf .entry))) at (header ∷ word ∷ now (rest .entry))) × (r ≡ (at + (2 + length (now (rest .entry)))) % length (now (buf .entry))) × (r < 16384) ⌝ }
+// Stores a message of these two dwords and the others in the ring from place `at` on, or nothing where it does not fit, and returns the tail to publish. It is
+// lent no descriptor, so that what it stores is stored before TAIL can be published.
+pub fn store_message(buf: &mut [u32], at: usize, header: u32, word: u32, rest: &[u32]) -> usize
+    ensures { λ r. ⌜ (now (buf .exit) ≡ storedAt (now (buf .entry)) at (header ∷ word ∷ now (rest .entry))) × (r ≡ Buffer.past (length (now (buf .entry))) at (2 + length (now (rest .entry)))) × (r < 16384) ⌝ }
 {
+    let n = buf.len();
+    let tail = past(at, 2 + rest.len(), n);
+    if n <= at {
+        return tail;
+    }
+    if n < 2 + rest.len() {
+        return tail;
+    }
     store_runs(buf, at, header, word, rest);
-    past(at, 2 + rest.len(), buf.len())
+    tail
 }
 
 // Fills dst with the dwords of the ring from place `at` on: one run, or two where they go around the end.
@@ -128,9 +129,20 @@ fn load_run(dst: &mut [u32], buf: &[u32], at: usize)
     }
 }
 
-// Lays a message of which the first two dwords were read, and the others are read now, at the front of the output, and returns the head to publish.
-// It is lent no descriptor, so that HEAD cannot be published before the message is laid.
-pub(crate) fn lay_message(
+// The dwords behind the first two of a message that starts at place `own`, read to their places in the output.
+fn lay_rest(out: &mut [u32], header: u32, second: u32, len: usize, buf: &[u32], own: usize)
+    requires { ⌜ (2 ≤ len) × (len ≤ length (now out)) × (len ≤ length (now buf)) × (own < length (now buf)) × (length (now buf) ≤ 16384) ⌝ }
+    ensures { λ _. ⌜ now (out .exit) ≡ header ∷ second ∷ window (now (buf .entry)) (length (now (buf .entry))) (own + 2) (len - 2) ++ drop len (now (out .entry)) ⌝ }
+{
+    out[0] = header;
+    out[1] = second;
+    let at = past(own, 2, buf.len());
+    load_run(&mut out[2..len], buf, at);
+}
+
+// Lays a message of which the first two dwords were read, and the others are read now, at the front of the output, or nothing where there is no such message
+// or no room, and returns the head to publish. It is lent no descriptor, so that what it reads is read before HEAD can be published.
+pub fn lay_message(
     out: &mut [u32],
     header: u32,
     second: u32,
@@ -138,13 +150,13 @@ pub(crate) fn lay_message(
     buf: &[u32],
     own: usize,
 ) -> usize
-    requires { ⌜ (2 ≤ len) × (len ≤ length (now out)) × (len ≤ length (now buf)) × (own < length (now buf)) × (length (now buf) ≤ 16384) ⌝ }
-    ensures { λ r. ⌜ (now (out .exit) ≡ header ∷ second ∷ window (now (buf .entry)) (length (now (buf .entry))) (own + 2) (len - 2) ++ drop len (now (out .entry))) × (r ≡ (own + len) % length (now (buf .entry))) × (r < 16384) ⌝ }
+    ensures { λ r. ⌜ (now (out .exit) ≡ laidFrom (now (buf .entry)) own header second len (now (out .entry))) × (r ≡ Buffer.past (length (now (buf .entry))) own len) × (r < 16384) ⌝ }
 {
-    out[0] = header;
-    out[1] = second;
     let n = buf.len();
-    let at = past(own, 2, n);
-    load_run(&mut out[2..len], buf, at);
-    past(own, len, n)
+    let head = past(own, len, n);
+    let there = (own < n) & (2 <= len) & (len <= n) & (n <= 16384);
+    if there & (len <= out.len()) {
+        lay_rest(out, header, second, len, buf, own);
+    }
+    head
 }

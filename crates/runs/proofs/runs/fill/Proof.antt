@@ -6,9 +6,9 @@ use lib.ListN.{length, set, length-set, length-take, length-drop}
 use borrow.Author.Needs.{needs}
 use borrow.Rule.Slice.PartMut.{same-len-mid}
 use denote.Ref.{now}
-use Rattle.ring.proofs.Straight.{filled}
-use Rattle.ring.proofs.runs.fill.Statement.{statement}
-use Rattle.ring.proofs.runs.fill.Tie as tie
+use Rattle.runs.proofs.Straight.{filled}
+use Rattle.runs.proofs.runs.fill.Statement.{statement}
+use Rattle.runs.proofs.runs.fill.Tie as tie
 
 slice-write-dst-2 : tie.Need-slice-write-dst-2
 slice-write-dst-2 c = simp length-set (omega arith)

@@ -6,9 +6,9 @@ use lib.ListN.{length, set, length-set, length-take, length-drop}
 use borrow.Author.Needs.{needs}
 use borrow.Rule.Slice.PartMut.{same-len-mid}
 use denote.Ref.{now}
-use Rattle.ring.proofs.Straight.{filled-tail}
-use Rattle.ring.proofs.runs.fill_tail.Statement.{statement}
-use Rattle.ring.proofs.runs.fill_tail.Tie as tie
+use Rattle.runs.proofs.Straight.{filled-tail}
+use Rattle.runs.proofs.runs.fill_tail.Statement.{statement}
+use Rattle.runs.proofs.runs.fill_tail.Tie as tie
 
 copy-run-requires : tie.Need-copy-run-requires
 copy-run-requires c κs = simp (length-take, length-drop, length-set) (omega arith)

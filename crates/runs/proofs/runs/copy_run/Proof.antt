@@ -7,9 +7,9 @@ use lib.ListN.{length, take, drop, length-set, drop-of-length-le}
 use lib.Seq.{take-length}
 use borrow.Author.Needs.{needs}
 use denote.Ref.{now}
-use Rattle.ring.proofs.Straight.{copied-more}
-use Rattle.ring.proofs.runs.copy_run.Statement.{statement}
-use Rattle.ring.proofs.runs.copy_run.Tie as tie
+use Rattle.runs.proofs.Straight.{copied-more}
+use Rattle.runs.proofs.runs.copy_run.Statement.{statement}
+use Rattle.runs.proofs.runs.copy_run.Tie as tie
 
 abbrev Inv-loop : tie.InvT-loop
 Inv-loop dst₀ src i₀ dst i =

@@ -7,10 +7,12 @@ use native.Mathlib.Numerals.{add-one}
 use native.Mathlib.Omega.{arith}
 use lib.ListN.{length, getD, set, take, drop, replicate, drop-of-length-le, take-append-drop, length-append, length-set, length-drop, length-take}
 use lib.Seq.{take-all, take-at, take-suc, drop-cons, drop-drop, drop-append-le, append-snoc, set-at, length-take-le, sets, sets-eq}
-use borrow.Author.Tests.{le-leb, lt-leb}
+use borrow.Author.Tests.{le-leb, lt-leb, le-ltb, lt-ltb}
 use borrow.Rule.Slice.PartMut.{midOf, putMid}
-use Rattle.ring.specs.Ring.{window, stored, laid}
-use Rattle.ring.proofs.Ring.{window-append, window-length, window-mod, stored-length}
+use lib.Dec.{ltb}
+use Rattle.message.proofs.Tests.{cases}
+use Rattle.runs.specs.Buffer.{window, stored, storedAt, laid, laidFrom}
+use Rattle.runs.proofs.Ring.{window-append, window-length, window-mod, stored-length}
 
 -- a turn of the loop that copies src to the front of dst
 pub copied-more : (dst src : List ℕ) (i : ℕ) → i < length src → i < length dst → set (take i src ++ drop i dst) i (getD src i 0) ≡ take (i + 1) src ++ drop (i + 1) dst
@@ -93,6 +95,20 @@ pub two-and-rest : (m : List ℕ) → 2 ≤ length m → getD m 0 0 ∷ getD m 1
 two-and-rest [] h = absurd (omega arith)
 two-and-rest (x ∷ []) h = absurd (omega arith)
 two-and-rest (x ∷ y ∷ r) h = ap (λ (l : List ℕ). x ∷ y ∷ l) (to-end 2 (x ∷ y ∷ r))
+
+-- what is stored where it fits, and where it does not
+module _ (b : List ℕ) (at : ℕ) (xs : List ℕ) where
+  pub stored-there : at < length b → length xs ≤ length b → storedAt b at xs ≡ stored b (length b) at xs
+  unfolding storedAt
+  stored-there h l = rw (lt-ltb at (length b) h, le-leb (length xs) (length b) l)
+
+  pub stored-outside : length b ≤ at → storedAt b at xs ≡ b
+  unfolding storedAt
+  stored-outside h = rw (le-ltb at (length b) h)
+
+  pub stored-long : length b < length xs → storedAt b at xs ≡ b
+  unfolding storedAt
+  stored-long h = cases (ltb at (length b)) (λ a. rw (a, lt-leb (length xs) (length b) h)) (λ a. rw a)
 
 -- a message's first dwords and its others
 pub take-two : (h w : ℕ) (r : List ℕ) (k f : ℕ) → k ≡ 2 + f → take k (h ∷ w ∷ r) ≡ h ∷ w ∷ take f r
@@ -189,3 +205,11 @@ laid-behind out b n h s len own r w l k e f =
     let x : length (midOf 2 (len - 2) (set (set out 0 h) 1 s)) ≡ len - 2 = simp (length-take, length-drop, length-set) (omega arith) in
     let y : r % n ≡ (own + 2) % n = rw e (mod-mod (own + 2) n) in
     rw (two-then out h s len w l k, f, x, window-mod b n r (own + 2) (len - 2) y)
+
+-- a message that is there, and for which there is room, is laid
+pub laid-there-from :
+    (b : List ℕ) (own h s len : ℕ) (out : List ℕ) → own < length b → 2 ≤ len → len ≤ length b → length b ≤ 16384 → len ≤ length out
+    → laidFrom b own h s len out ≡ h ∷ s ∷ window b (length b) (own + 2) (len - 2) ++ drop len out
+unfolding laidFrom
+laid-there-from b own h s len out x y z v w =
+    rw (lt-ltb own (length b) x, le-leb 2 len y, le-leb len (length b) z, le-leb (length b) 16384 v, le-leb len (length out) w)

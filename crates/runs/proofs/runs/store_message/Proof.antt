@@ -1,0 +1,41 @@
+-- `runs::store_message` meets its contract: a message that fits is stored in its runs. Assumes nothing.
+use Prim.Native.Nat.{_+_}
+use mathlib.Core.Path.{_≡_, sym, _∙_}
+use mathlib.Core.List.{_∷_}
+use native.Mathlib.Omega.{arith}
+use denote.Ref.{now}
+use borrow.Author.Needs.{needs}
+use Rattle.runs.proofs.Straight.{stored-long, stored-outside, stored-there}
+use Rattle.runs.proofs.runs.store_message.Statement.{statement}
+use Rattle.runs.proofs.runs.store_message.Tie as tie
+
+returns : tie.Need-returns
+returns c =
+    let a = c .before .before .before .before .args in
+    let p = c .before .past .ensures in
+    (sym (stored-outside (now (a .buf)) (a .at) (a .header ∷ a .word ∷ now (a .rest)) (c .if1 .taken)), p .0, p .1)
+
+returns-2 : tie.Need-returns-2
+returns-2 c =
+    let a = c .before .before .before .before .before .args in
+    let p = c .before .before .past .ensures in
+    (sym (stored-long (now (a .buf)) (a .at) (a .header ∷ a .word ∷ now (a .rest)) (omega arith)), p .0, p .1)
+
+returns-3 : tie.Need-returns-3
+returns-3 c =
+    let a = c .before .before .before .before .before .before .before .before .before .args in
+    let p = c .before .before .before .before .before .before .past .ensures in
+    (c .before .before .store-runs .ensures ∙ sym (stored-there (now (a .buf)) (a .at) (a .header ∷ a .word ∷ now (a .rest)) (omega arith) (omega arith)), p .0, p .1)
+
+pub store-message-spec : {M : Type 1} → statement M
+store-message-spec =
+    tie.close
+    (tie.spec
+    (λ c. search needs)
+    (λ c κs. search needs)
+    returns
+    (λ c. search needs)
+    returns-2
+    (λ c κs. search needs)
+    (λ c. search needs)
+    returns-3)

@@ -1,0 +1,10 @@
+// Straight runs of dwords: how a message goes into the buffer of a ring and out of it, in one run or two, and the offset past it. It knows no
+// descriptor, and of a message only that its first two dwords were judged.
+mod offset;
+mod runs;
+
+pub use offset::past;
+pub use runs::lay;
+pub use runs::lay_copy;
+pub use runs::lay_message;
+pub use runs::store_message;
