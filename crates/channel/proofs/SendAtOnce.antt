@@ -8,18 +8,17 @@ use native.Mathlib.Numerals.{add-one}
 use lib.ListN.{length, getD, take, set, replicate, List·getD-append}
 use lib.Seq.{take-all}
 use lib.Dec.{eqb, leb, ltb}
-use borrow.Author.Tests.{eqb-true, eq-eqb, le-leb, lt-ltb, leb-true}
-use Rattle.message.specs.Header.{isMessage}
+use borrow.Author.Tests.{eqb-true, eq-eqb, le-leb, lt-ltb}
 use Rattle.message.proofs.Formed.{message-formed, message-length, message-long, message-short}
 use Rattle.ring.specs.AtOnce.{AtOnce, ended, send, sendBy}
-use Rattle.ring.specs.Numbers.{entry, found, marked, need, sendFound}
+use Rattle.ring.specs.Numbers.{entry, marked, need}
 use Rattle.channel.specs.Outcome.{Outcome}
-use Rattle.ring.specs.Ring.{TAIL, free, head, status, tail, used}
+use Rattle.ring.specs.Ring.{TAIL}
 use Rattle.runs.specs.Buffer.{stored}
 use Rattle.channel.specs.State.{State, activeSend, idle, idleAt}
 use Rattle.channel.specs.Send
 use Rattle.ring.specs.declared.sending.Ended.{Ended}
-use Rattle.ring.proofs.Chains.{Entered, entered, entered-fits, entered-rest, passed, passed-rest, tested}
+use Rattle.ring.proofs.Chains.{tested}
 use Rattle.message.proofs.Tests.{cases}
 use Rattle.channel.proofs.Fits.{idle-same}
 use Rattle.ring.proofs.Sent.{Accepted, accepted}

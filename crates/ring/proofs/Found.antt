@@ -1,11 +1,11 @@
 -- What a look finds in the descriptor, and offsets of the ring without a remainder. Assumes nothing.
-use Prim.Native.Nat.{ℕ, _+_, _-_, _%_, _≤_, _<_}
+use Prim.Native.Nat.{ℕ, _+_, _-_, _≤_, _<_}
 use mathlib.Core.Path.{_≡_, refl, sym, _∙_}
-use mathlib.Core.Bool.{true, false, not, _&&_, _||_}
+use mathlib.Core.Bool.{false, not, _&&_}
 use native.Mathlib.Omega.{arith}
-use native.Mathlib.Nat.{mod-lt, mod-eq-of-lt, mod-eq-sub-mod, add-mod-right}
+use native.Mathlib.Nat.{mod-lt, mod-eq-of-lt, add-mod-right}
 use lib.Dec.{eqb, leb, ltb}
-use borrow.Author.Tests.{eqb-true, ltb-true, lt-ltb, le-ltb, le-leb, lt-leb, eq-eqb, not-true}
+use borrow.Author.Tests.{eqb-true, ltb-true, lt-ltb, le-leb, lt-leb, eq-eqb, not-true}
 use Rattle.message.specs.Header.{totalLength}
 use Rattle.message.proofs.Tests.{and-l, and-r, cases}
 use Rattle.ring.specs.Ring.{used}

@@ -2,7 +2,7 @@
 use Prim.Native.Nat.{ℕ, zero, suc, _+_, _-_, _%_, _≤_, _<_}
 use mathlib.Core.Path.{_≡_, refl, sym, ap, _∙_}
 use mathlib.Core.List.{List, [], _∷_, _++_, append-assoc, append-nil}
-use native.Mathlib.Nat.{zero-add, add-zero, suc-add, sub-zero, zero-sub, suc-sub-suc, zero-mod, mod-self, mod-mod, mod-eq-of-lt, suc-mod}
+use native.Mathlib.Nat.{sub-zero, zero-sub, suc-sub-suc, zero-mod, mod-self, mod-mod, mod-eq-of-lt, suc-mod}
 use native.Mathlib.Numerals.{add-one}
 use native.Mathlib.Omega.{arith}
 use lib.ListN.{length, getD, set, take, drop, replicate, drop-of-length-le, take-append-drop, length-append, length-set, length-drop, length-take}

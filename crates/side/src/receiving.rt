@@ -1,7 +1,7 @@
 // A receive on a state in words: its three steps and the whole receive.
 ghost use mathlib.Core.Path.{_≡_};
 ghost use mathlib.Core.List.{List, [], _++_};
-ghost use Prim.Native.Nat.{ℕ, _+_, _%_, _≤_, _<_};
+ghost use Prim.Native.Nat.{ℕ, _+_, _≤_, _<_};
 ghost use lib.ListN.{length, getD, take, drop};
 ghost use Rattle.runs.specs.Buffer;
 ghost use Rattle.channel.specs.Receive;

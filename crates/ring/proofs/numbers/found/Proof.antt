@@ -1,5 +1,4 @@
 -- `numbers::found` meets its contract: at each `return` the tests that led there say which number it is. Assumes nothing.
-use borrow.Author.Needs.{needs}
 use borrow.Author.Tests.{ne-eqb, lt-ltb, le-ltb}
 use Rattle.ring.specs.Numbers.{need, found}
 use Rattle.ring.proofs.Found.{found-none}

@@ -1,5 +1,5 @@
 -- `numbers::pending` meets its contract: past 6, 7 and 8 the offsets are below N, and what is in use decides. Assumes nothing.
-use mathlib.Core.Path.{_≡_, sym, _∙_}
+use mathlib.Core.Path.{sym, _∙_}
 use borrow.Author.Needs.{needs}
 use borrow.Author.Tests.{eq-eqb, ne-eqb}
 use Rattle.ring.specs.Numbers.{need}

@@ -1,5 +1,5 @@
 -- `numbers::send_found` meets its contract: past 6, 7 and 8 the offsets are below N, and the room decides. Assumes nothing.
-use mathlib.Core.Path.{_≡_, sym, _∙_}
+use mathlib.Core.Path.{sym, _∙_}
 use native.Mathlib.Omega.{arith}
 use borrow.Author.Needs.{needs}
 use borrow.Author.Tests.{le-leb, lt-leb}

@@ -1,5 +1,5 @@
 -- `receiving::look_header` meets its contract: 1, 2 and 3 are judged first, and past them what is found decides. Assumes nothing.
-use mathlib.Core.Path.{_≡_, refl, sym, _∙_}
+use mathlib.Core.Path.{refl, sym, _∙_}
 use mathlib.Core.Bool.{true}
 use lib.ListN.{length, getD}
 use denote.Ref.{now}

@@ -1,5 +1,5 @@
 -- `receiving::second_dword` meets its contract: a message of one dword has no second. Assumes nothing.
-use mathlib.Core.Path.{_≡_, sym, _∙_}
+use mathlib.Core.Path.{sym, _∙_}
 use native.Mathlib.Omega.{arith}
 use lib.ListN.{length, List·getD-eq-default}
 use denote.Ref.{now}

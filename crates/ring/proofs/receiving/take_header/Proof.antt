@@ -1,5 +1,5 @@
 -- `receiving::take_header` meets its contract: 1, 2, 3 and 5 are judged first, and past them what is found decides. Assumes nothing.
-use mathlib.Core.Path.{_≡_, refl, sym, _∙_}
+use mathlib.Core.Path.{refl, sym, _∙_}
 use borrow.Author.Needs.{needs}
 use borrow.Author.Tests.{ne-eqb}
 use Rattle.ring.specs.Numbers.{takeNumber}

@@ -1,9 +1,5 @@
 -- `receiving::whole_receive` meets its contract: the message is taken, and then the receive is ended. Assumes nothing.
-use mathlib.Core.Path.{_≡_, sym, ap, _∙_}
-use mathlib.Core.Bool.{_||_}
 use native.Mathlib.Omega.{arith}
-use lib.Dec.{eqb}
-use lib.ListN.{length, getD}
 use denote.Ref.{now}
 use borrow.Author.Needs.{needs}
 use Rattle.ring.proofs.Taken.{taken-zero, whole-taken}

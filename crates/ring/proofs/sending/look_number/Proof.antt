@@ -1,5 +1,5 @@
 -- `sending::look_number` meets its contract: 1 to 4 are judged first, and past them the descriptor's words decide. Assumes nothing.
-use mathlib.Core.Path.{_≡_, refl, sym, _∙_}
+use mathlib.Core.Path.{refl, sym, _∙_}
 use borrow.Author.Needs.{needs}
 use Rattle.ring.specs.Numbers.{sendDecision}
 use Rattle.ring.proofs.Chains.{entry-none, entry-one}

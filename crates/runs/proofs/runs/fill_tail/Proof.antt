@@ -1,5 +1,5 @@
 -- `runs::fill_tail` meets its contract: a dword by value, and behind it a run that fills the rest. Assumes nothing.
-use Prim.Native.Nat.{_+_, _-_}
+use Prim.Native.Nat.{_-_}
 use mathlib.Core.Path.{_≡_, _∙_}
 use native.Mathlib.Omega.{arith}
 use lib.ListN.{length, set, length-set, length-take, length-drop}

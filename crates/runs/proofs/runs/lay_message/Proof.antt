@@ -1,8 +1,5 @@
 -- `runs::lay_message` meets its contract: its test is the definition's. Assumes nothing.
-use Prim.Native.Nat.{_<_, _≤_}
-use mathlib.Core.Path.{_≡_, _∙_}
-use mathlib.Core.Bool.{true, _&&_}
-use native.Mathlib.Omega.{arith}
+use mathlib.Core.Bool.{_&&_}
 use lib.Dec.{leb, ltb}
 use lib.ListN.{length}
 use denote.Ref.{now}

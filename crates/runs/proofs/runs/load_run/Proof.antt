@@ -1,13 +1,11 @@
 -- `runs::load_run` meets its contract: straight runs read what `window` has, one run or two. Assumes nothing.
 use Prim.Native.Nat.{_+_, _-_}
-use mathlib.Core.Path.{_≡_, refl, _∙_}
+use mathlib.Core.Path.{refl, _∙_}
 use native.Mathlib.Nat.{sub-zero}
 use native.Mathlib.Omega.{arith}
 use lib.ListN.{length}
 use borrow.Author.Needs.{needs}
-use borrow.Rule.Slice.PartMut.{putMid}
 use denote.Ref.{now}
-use Rattle.runs.specs.Buffer.{window}
 use Rattle.runs.proofs.Straight.{window-one, window-two}
 use Rattle.runs.proofs.runs.load_run.Statement.{statement}
 use Rattle.runs.proofs.runs.load_run.Tie as tie

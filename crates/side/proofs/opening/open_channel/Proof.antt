@@ -1,8 +1,7 @@
 -- `opening::open_channel` meets its contract. Assumes nothing.
-use mathlib.Core.Path.{_≡_, sym, ap, _∙_}
+use mathlib.Core.Path.{sym, _∙_}
 use native.Mathlib.Omega.{arith}
-use lib.ListN.{replicate}
-use borrow.Author.Tests.{eq-eqb, ne-eqb}
+use borrow.Author.Tests.{ne-eqb}
 use Rattle.channel.specs.Opening.{openBy}
 use Rattle.channel.proofs.Going.{open-sixteen, open-high}
 use borrow.Author.Needs.{needs}

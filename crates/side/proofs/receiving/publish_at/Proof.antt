@@ -1,7 +1,6 @@
 -- `receiving::publish_at` meets its contract: its number says whether HEAD moves, and whether the message is laid. Assumes nothing.
 use Prim.Native.Nat.{_≤_}
 use mathlib.Core.Path.{_≡_, refl, sym, ap, _∙_}
-use native.Mathlib.Omega.{arith}
 use lib.ListN.{length}
 use denote.Ref.{now}
 use borrow.Author.Needs.{needs}

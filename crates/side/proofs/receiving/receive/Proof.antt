@@ -5,7 +5,6 @@ use native.Mathlib.Omega.{arith}
 use lib.ListN.{length}
 use denote.Ref.{now}
 use borrow.Author.Needs.{needs}
-use borrow.Author.Tests.{ne-eqb}
 use Rattle.channel.specs.declared.state.Counts.{Counts}
 use Rattle.ring.specs.AtOnce.{ended, receive}
 use Rattle.channel.specs.State.{idle}

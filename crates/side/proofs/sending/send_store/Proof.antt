@@ -1,5 +1,5 @@
 -- `sending::send_store` meets its contract: a number other than 0 leaves all; after 0 the state is active and fits. Assumes nothing.
-use Prim.Native.Nat.{_≤_, _<_}
+use Prim.Native.Nat.{_<_}
 use mathlib.Core.Path.{_≡_, refl, sym, ap, _∙_}
 use native.Mathlib.Omega.{arith}
 use lib.ListN.{length}
@@ -7,7 +7,6 @@ use denote.Ref.{now}
 use borrow.Author.Needs.{needs}
 use borrow.Author.Tests.{ltb-true, ne-eqb}
 use Rattle.channel.specs.Send
-use Rattle.channel.specs.State.{countsOf}
 use Rattle.channel.specs.declared.state.Counts.{Counts}
 use Rattle.channel.proofs.Going.{Going, going-place, going-send, going-test}
 use Rattle.side.specs.Words.{stateOf}

@@ -1,6 +1,6 @@
 -- `words::load` meets its contract: an idle copy is zeros, so what the message leaves of it is. Assumes nothing.
 use Prim.Native.Nat.{_+_}
-use mathlib.Core.Path.{_≡_, refl}
+use mathlib.Core.Path.{_≡_}
 use mathlib.Core.List.{_∷_}
 use lib.ListN.{length}
 use native.Mathlib.Omega.{arith}

@@ -1,7 +1,7 @@
 -- `Receiver::copy` meets its contract: a number other than 0 leaves all; after 0 the state is active and fits, so
 -- that the place lies in the buffer. Assumes nothing.
 use Prim.Native.Nat.{_<_}
-use mathlib.Core.Path.{_≡_, refl, sym, _∙_}
+use mathlib.Core.Path.{refl, sym, _∙_}
 use native.Mathlib.Omega.{arith}
 use lib.ListN.{length}
 use denote.Ref.{now}

@@ -1,7 +1,6 @@
 -- `Receiver::counts` meets its contract: they are the state's. Assumes nothing.
 use Rattle.channel.specs.State.{ofReceiver}
 use mathlib.Core.Path.{refl}
-use borrow.Author.Needs.{needs}
 use Rattle.channel.proofs.receiving.Receiver.counts.Statement.{statement}
 use Rattle.channel.proofs.receiving.Receiver.counts.Tie as tie
 

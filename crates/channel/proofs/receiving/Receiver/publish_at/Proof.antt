@@ -1,7 +1,7 @@
 -- `Receiver::publish_at` meets its contract: its number says whether HEAD moves, and whether the message is laid.
 -- Where HEAD moves the state is active and fits, and the output has room. Assumes nothing.
 use Prim.Native.Nat.{_+_, _-_, _≤_}
-use mathlib.Core.Path.{_≡_, refl, sym, _∙_}
+use mathlib.Core.Path.{_≡_, sym, _∙_}
 use native.Mathlib.Omega.{arith}
 use lib.ListN.{length, take, drop, length-take, length-drop}
 use denote.Ref.{now}

@@ -1,7 +1,6 @@
 -- `Sender::counts` meets its contract: they are the state's. Assumes nothing.
 use Rattle.channel.specs.State.{ofSender}
 use mathlib.Core.Path.{refl}
-use borrow.Author.Needs.{needs}
 use Rattle.channel.proofs.sending.Sender.counts.Statement.{statement}
 use Rattle.channel.proofs.sending.Sender.counts.Tie as tie
 

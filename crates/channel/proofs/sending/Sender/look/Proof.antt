@@ -1,8 +1,6 @@
 -- `Sender::look` meets its contract: a number other than 0 marks STATUS and leaves the state; after 0 the
 -- message fits the copy, and its first two dwords are those that were judged. Assumes nothing.
-use mathlib.Core.Path.{_≡_, refl, sym, ap, _∙_}
-use Prim.Native.Nat.{_≤_}
-use native.Mathlib.Omega.{arith}
+use mathlib.Core.Path.{_≡_, sym, _∙_}
 use lib.ListN.{length}
 use denote.Ref.{now}
 use borrow.Author.Needs.{needs}

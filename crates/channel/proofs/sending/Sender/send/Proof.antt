@@ -1,5 +1,4 @@
 -- `Sender::send` meets its contract: a whole send at once is its steps one after another. Assumes nothing.
-use mathlib.Core.Path.{_≡_, sym}
 use denote.Ref.{now}
 use borrow.Author.Needs.{needs}
 use borrow.Author.Tests.{ne-eqb}
