@@ -3,3 +3,4 @@ pub mod Outcome
 pub mod Send
 pub mod Receive
 pub mod Opening
+pub mod Operations
