@@ -14,6 +14,7 @@ use Rattle.firmware.specs.Inside.{hucName, partNamed, hucBlob, hucNumber
 use Rattle.firmware.specs.Private.{outer}
 use Rattle.firmware.specs.declared.bytes.Located.{Located}
 use Rattle.firmware.specs.declared.css.Component.{Component}
+use Rattle.firmware.proofs.Nowhere.{name-nowhere}
 use Rattle.firmware.proofs.Lies.{cpd-lies, located-span, shown-beyond}
 
 -- a place in the image, told by the code from where it starts, is the one that is shown
@@ -30,15 +31,6 @@ outer-located : (at : ℕ) (which : Component) (i : List ℕ) → outer at (Css.
 unfolding Css.place
 outer-located at which i = chosen at (Css.number i) (Css.truncated i) (Css.shown which i) (Css.laid which (Css.sizes i)) (λ e. shown-beyond i which e .after)
 
--- a name that is refused is nowhere
-entry-nowhere : (b : List ℕ) (i : ℕ) → eqb (Cpd.entryNumber b i) 0 ≡ false → Cpd.entryPlace b i ≡ nowhere
-unfolding Cpd.entryPlace
-entry-nowhere b i e = rw e
-
-by-name : (b : List ℕ) (i : ℕ) (t : Bool) → eqb (cond t 14 (Cpd.entryNumber b i)) 0 ≡ false → cond t nowhere (Cpd.entryPlace b i) ≡ nowhere
-by-name b i true e = refl
-by-name b i false e = entry-nowhere b i e
-
 -- the bytes of a part that is found
 pub found-bytes : (b name : List ℕ) {f : Located} → f ≡ Cpd.located b name → bytes b (span (f .start) (f .start + f .len)) ≡ partNamed b name
 found-bytes b name e = ap (bytes b) (located-span (length b) (Cpd.place b name) (cpd-lies b name) (Cpd.number b name) false e)
@@ -46,10 +38,10 @@ found-bytes b name e = ap (bytes b) (located-span (length b) (Cpd.place b name) 
 -- what is found under `huc_fw`
 module _ (b : List ℕ) (which : Component) {f : Located} (e : f ≡ Cpd.located b hucName) where
   pub huc-refused : (f .code ≡ 0 → ⊥) → f ≡ hucLocated which b
-  unfolding Cpd.number Cpd.place hucNumber hucTruncated hucPlace
+  unfolding hucNumber hucTruncated hucPlace
   huc-refused z =
       let number : eqb (Cpd.number b hucName) 0 ≡ false = ne-eqb (Cpd.number b hucName) 0 (λ q. z (rw e q)) in
-      let place : Cpd.place b hucName ≡ nowhere = by-name b (Cpd.firstEntry b hucName) (not (Cpd.isName hucName)) number in
+      let place : Cpd.place b hucName ≡ nowhere = name-nowhere b hucName number in
       e ∙ simp (number, place)
 
   pub huc-found : {l : Located} → f .code ≡ 0 → l ≡ Css.located which (bytes b (span (f .start) (f .start + f .len))) → outer (f .start) l ≡ hucLocated which b

@@ -14,20 +14,12 @@ use Rattle.firmware.specs.declared.bytes.Located.{Located}
 use Rattle.firmware.specs.declared.css.Sizes.{Sizes}
 use Rattle.firmware.specs.declared.css.Component.{Component}
 use Rattle.firmware.specs.declared.css.Component.the-variants.{Ucode, Rsa, Modulus, Exponent}
-
--- a component of an image that is refused
-not-shown : (b : List ℕ) (which : Component) → Css.accepted b ≡ false → Css.place which b ≡ nowhere
-unfolding Css.place Css.shown
-not-shown b Ucode e = rw e
-not-shown b Rsa e = rw e
-not-shown b Modulus e = rw e
-not-shown b Exponent e = rw e
+use Rattle.firmware.proofs.Nowhere.{image-nowhere}
 
 refused : (b : List ℕ) (which : Component) (k : ℕ) → Css.number b ≡ suc k → Css.located which b ≡ placed (suc k) false nowhere
-unfolding Css.truncated
 refused b which k e =
     let a : Css.accepted b ≡ false = ne-eqb (Css.number b) 0 (λ z. absurd (omega arith)) in
-    rw (not-shown b which a, a, e)
+    image-nowhere b which a ∙ rw e
 
 pub no-header : (b : List ℕ) (which : Component) → length b < 128 → Css.located which b ≡ placed 15 false nowhere
 unfolding Css.number

@@ -1,13 +1,15 @@
 -- Laws of `all` and `first`: how a walk goes on and how it ends. Assumes nothing.
 use Prim.Native.Nat.{ℕ, zero, suc, _+_, _-_, _≤_, _<_}
 use mathlib.Core.Path.{_≡_, refl, sym, ap, _∙_}
-use mathlib.Core.Bool.{Bool, true, false, cond, and-false}
+use mathlib.Core.Bool.{Bool, true, false, not, cond, and-false}
 use native.Mathlib.Numerals.{add-one}
 use mathlib.Core.Logic.{⊎-elim}
 use native.Mathlib.Nat.{eq-or-lt-of-le}
 use native.Mathlib.Omega.{arith}
 use Rattle.firmware.specs.Cpd.{all, first}
-use Rattle.firmware.proofs.Tests.{both}
+use Rattle.firmware.proofs.Tests.{both, cases}
+use lib.Dec.{leb}
+use borrow.Author.Tests.{leb-true, leb-false}
 
 pub all-more : (p : ℕ → Bool) (n : ℕ) → all p n ≡ true → p n ≡ true → all p (n + 1) ≡ true
 unfolding all
@@ -64,3 +66,41 @@ module _ (p : ℕ → Bool) (n : ℕ) where
   pub ends : (i : ℕ) {x : ℕ} → n ≤ i → x ≡ first p i (n - i) → i ≡ x
   unfolding first
   ends i h e = let z : n - i ≡ 0 = omega arith in sym (e ∙ rw z)
+
+-- a test that holds of each number holds of all
+pub all-each : (p : ℕ → Bool) (n : ℕ) → ((j : ℕ) → j < n → p j ≡ true) → all p n ≡ true
+unfolding all
+all-each p zero h = refl
+all-each p (suc n) h = rw (all-each p n (λ j l. h j (omega arith)), h n (omega arith))
+
+-- what a walk from i over n numbers comes to: none before it holds, and where it is no further than they go it holds
+pub first-unmet : (p : ℕ → Bool) (i n j : ℕ) → i ≤ j → j < first p i n → p j ≡ false
+unfolding first
+first-unmet p i zero j h l = absurd (omega arith)
+first-unmet p i (suc n) j h l =
+    cases (p i)
+    (λ t. let g : j < i = rw t at l in absurd (omega arith))
+    (λ t.
+    let g : j < first p (suc i) n = rw t at l in
+    ⊎-elim (λ q. rw (← q) t) (λ m. first-unmet p (suc i) n j m g) (eq-or-lt-of-le h))
+
+pub first-met : (p : ℕ → Bool) (i n : ℕ) → first p i n < i + n → p (first p i n) ≡ true
+unfolding first
+first-met p i zero l = absurd (omega arith)
+first-met p i (suc n) l =
+    cases (p i)
+    (λ t. rw t t)
+    (λ t.
+    let g : first p (suc i) n < i + suc n = rw t at l in
+    rw t (first-met p (suc i) n (omega arith)))
+
+-- no number holds exactly where the walk comes to its end
+pub none-met : (p : ℕ → Bool) (n : ℕ) → all (λ j. not (p j)) n ≡ leb n (first p 0 n)
+none-met p n =
+    cases (leb n (first p 0 n))
+    (λ t.
+    let g : n ≤ first p 0 n = leb-true n (first p 0 n) t in
+    all-each (λ j. not (p j)) n (λ j l. ap not (first-unmet p 0 n j (omega arith) (omega arith))) ∙ sym t)
+    (λ t.
+    let g : first p 0 n < n = leb-false n (first p 0 n) t in
+    all-fails (λ j. not (p j)) n (first p 0 n) g (ap not (first-met p 0 n (omega arith))) ∙ sym t)

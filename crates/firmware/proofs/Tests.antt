@@ -11,6 +11,11 @@ pub either : {A : Type 0} (P : A → Type 0) (t : Bool) (a b : A) → (t ≡ tru
 either P true a b f g = f refl
 either P false a b f g = g refl
 
+-- by cases on a test
+pub cases : {X : Type 0} (t : Bool) → (t ≡ true → X) → (t ≡ false → X) → X
+cases true f g = f refl
+cases false f g = g refl
+
 true-false : {X : Type 0} → _≡_ {A = Bool} true false → X
 true-false e = let z : _≡_ {A = ℕ} 0 1 = cc in absurd (omega arith)
 

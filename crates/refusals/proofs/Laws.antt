@@ -1,8 +1,8 @@
 -- Laws of lists of numbers, and of what leaves the reserved words of a descriptor alone. Assumes nothing.
 use Prim.Native.Nat.{ℕ, _<_}
 use mathlib.Core.Path.{_≡_, refl, sym, ap, _∙_}
-use mathlib.Core.Bool.{Bool, true, false, cond}
-use mathlib.Core.List.{List}
+use mathlib.Core.Bool.{Bool, true, false, _||_, cond}
+use mathlib.Core.List.{List, [], _∷_}
 use native.Mathlib.Omega.{arith}
 use lib.ListN.{length, getD, set}
 use lib.Seq.{drop-set-lt, getD-take, take-set-lt}
@@ -12,7 +12,28 @@ use Rattle.ring.specs.Ring.{HEAD, STATUS, head, tail, status}
 use Rattle.ring.specs.Numbers.{need}
 use Rattle.ring.proofs.Chains.{true-false}
 use Rattle.message.proofs.Tests.{cases}
-use Rattle.refusals.specs.Refusals.{leaves, oneOf, reserved, unreserved}
+use Rattle.refusals.specs.Leaves.{leaves, reserved, unreserved}
+
+-- a number is one of a list
+unfoldable pub oneOf : List ℕ → ℕ → Bool
+oneOf [] c = false
+oneOf (x ∷ xs) c = eqb c x || oneOf xs c
+
+-- the numbers of the table that each kind of operation may answer
+abbrev pub lookingSend : List ℕ
+lookingSend = 0 ∷ 1 ∷ 2 ∷ 3 ∷ 4 ∷ 6 ∷ 7 ∷ 8 ∷ 10 ∷ []
+
+abbrev pub lookingReceive : List ℕ
+lookingReceive = 0 ∷ 1 ∷ 2 ∷ 3 ∷ 6 ∷ 7 ∷ 8 ∷ 9 ∷ 11 ∷ []
+
+abbrev pub goingOn : List ℕ
+goingOn = 0 ∷ 1 ∷ 2 ∷ 3 ∷ 12 ∷ []
+
+abbrev pub publishingReceive : List ℕ
+publishingReceive = 0 ∷ 1 ∷ 2 ∷ 3 ∷ 5 ∷ 12 ∷ 13 ∷ []
+
+abbrev pub wholeReceiving : List ℕ
+wholeReceiving = 0 ∷ 1 ∷ 2 ∷ 3 ∷ 5 ∷ 6 ∷ 7 ∷ 8 ∷ 9 ∷ 11 ∷ 13 ∷ []
 
 -- a chain answers one of the list where its first test's number and the rest of it do
 pub one-need : (may : List ℕ) (t : Bool) (k r : ℕ) → oneOf may k ≡ true → oneOf may r ≡ true → oneOf may (need t k r) ≡ true

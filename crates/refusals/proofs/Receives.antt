@@ -1,4 +1,4 @@
--- The calls of a receive, and opening, say what Demand1 asks. Assumes nothing.
+-- The calls of a receive, and opening, leave what Demand1 asks. Assumes nothing.
 use Prim.Native.Nat.{ℕ, _+_, _%_}
 use mathlib.Core.Path.{_≡_, refl}
 use mathlib.Core.Bool.{true, false}
@@ -15,27 +15,28 @@ use Rattle.channel.specs.State.{State, idle, idleAt}
 use Rattle.channel.specs.Receive
 use Rattle.message.proofs.Tests.{cases}
 use Rattle.channel.proofs.ReceiveAtOnce.{receive-at-once, receiveOutcome}
-use Rattle.refusals.specs.Refusals.{OpeningSays, Says, comesBack, goesOn, leaves, none, noOutput, oneOf, openings, receiveLooks, receivePublishes, wholeReceives}
-use Rattle.refusals.proofs.Laws.{Alike, mild-none, mild-set, not-one, one-need}
-use Rattle.refusals.proofs.Says.{Accepts, refusal, says}
+use Rattle.channel.specs.Operations.{receiveLook, receiveMove, receivePublish, receiveWhole}
+use Rattle.refusals.specs.Leaves.{OpeningRefused, stateLeft, leaves}
+use Rattle.refusals.proofs.Laws.{Alike, goingOn, lookingReceive, mild-none, mild-set, not-one, one-need, oneOf, publishingReceive, wholeReceiving}
+use Rattle.refusals.proofs.Says.{Accepts, Says, refusal, says}
 use Rattle.refusals.proofs.Sends.{one-on}
 
 -- ---- look and move
 
 module _ (s : State) (b : List ℕ) where
-  look-one : (d : List ℕ) → oneOf receiveLooks (Receive.lookNumber s d b) ≡ true
+  look-one : (d : List ℕ) → oneOf lookingReceive (Receive.lookNumber s d b) ≡ true
   unfolding oneOf receiveDecision entry receiveFound found
   look-one d =
-      let next = one-need receiveLooks in
+      let next = one-need lookingReceive in
       next _ 1 _ refl (next _ 2 _ refl (next _ 3 _ refl (next _ 6 _ refl (next _ 7 _ refl (next _ 8 _ refl (next _ 9 _ refl (next _ 11 _ refl refl)))))))
 
   look-alike : (d e : List ℕ) → Alike d e → Receive.lookNumber s d b ≡ Receive.lookNumber s e b
   unfolding receiveDecision
   look-alike d e a = rw (a .size, a .heads, a .tails, a .statuses)
 
-  look-refuses : (c : ℕ) (d : List ℕ) → eqb c 0 ≡ false → oneOf receiveLooks c ≡ true → Receive.lookBy c s d b ≡ refusal c none s noOutput b d
-  unfolding Receive.lookBy marked leaves comesBack oneOf
-  look-refuses c d z p = rw (z, not-one receiveLooks c 13 p refl)
+  look-refuses : (c : ℕ) (d : List ℕ) → eqb c 0 ≡ false → oneOf lookingReceive c ≡ true → Receive.lookBy c s d b ≡ refusal c receiveLook s b d
+  unfolding Receive.lookBy marked leaves stateLeft oneOf
+  look-refuses c d z p = rw (z, not-one lookingReceive c 13 p refl)
 
   look-accepts : Accepts (λ (d : List ℕ). Receive.lookBy 0 s d b)
   unfolding Receive.lookBy marked
@@ -50,12 +51,12 @@ module _ (s : State) (b : List ℕ) where
         same = λ d. refl;
       }
 
-  pub receive-look : Says receiveLooks none s noOutput b (λ (d : List ℕ). Receive.look s d b)
+  pub receive-look : Says receiveLook s b (λ (d : List ℕ). Receive.lookNumber s d b)
   receive-look =
-      says _ _ _ _ _ _ (λ d. Receive.lookNumber s d b) (λ c d. Receive.lookBy c s d b)
+      says _ _ _ _ (λ d. Receive.lookNumber s d b) (λ c d. Receive.lookBy c s d b)
       (λ d. refl) look-one look-alike look-accepts look-refuses
 
-  move-one : (d : List ℕ) → oneOf goesOn (Receive.moveNumber s d b) ≡ true
+  move-one : (d : List ℕ) → oneOf goingOn (Receive.moveNumber s d b) ≡ true
   unfolding Receive.moveNumber
   move-one d = one-on _ _ _ _
 
@@ -63,10 +64,10 @@ module _ (s : State) (b : List ℕ) where
   unfolding Receive.moveNumber
   move-alike d e a = rw (a .size)
 
-  move-refuses : (c : ℕ) (d : List ℕ) → eqb c 0 ≡ false → oneOf goesOn c ≡ true → Receive.moveBy c s d b ≡ refusal c none s noOutput b d
-  unfolding Receive.moveBy leaves comesBack oneOf
+  move-refuses : (c : ℕ) (d : List ℕ) → eqb c 0 ≡ false → oneOf goingOn c ≡ true → Receive.moveBy c s d b ≡ refusal c receiveMove s b d
+  unfolding Receive.moveBy leaves stateLeft oneOf
   move-refuses c d z p =
-      rw (z, not-one goesOn c 7 p refl, not-one goesOn c 8 p refl, not-one goesOn c 9 p refl, not-one goesOn c 13 p refl)
+      rw (z, not-one goingOn c 7 p refl, not-one goingOn c 8 p refl, not-one goingOn c 9 p refl, not-one goingOn c 13 p refl)
 
   move-accepts : Accepts (λ (d : List ℕ). Receive.moveBy 0 s d b)
   unfolding Receive.moveBy
@@ -81,37 +82,37 @@ module _ (s : State) (b : List ℕ) where
         same = λ d. refl;
       }
 
-  pub receive-move : Says goesOn none s noOutput b (λ (d : List ℕ). Receive.move s d b)
+  pub receive-move : Says receiveMove s b (λ (d : List ℕ). Receive.moveNumber s d b)
   receive-move =
-      says _ _ _ _ _ _ (λ d. Receive.moveNumber s d b) (λ c d. Receive.moveBy c s d b)
+      says _ _ _ _ (λ d. Receive.moveNumber s d b) (λ c d. Receive.moveBy c s d b)
       (λ d. refl) move-one move-alike move-accepts move-refuses
 
 -- ---- publish and whole, which may answer 13
 
 module _ (s : State) (o b : List ℕ) where
-  publish-one : (d : List ℕ) → oneOf receivePublishes (Receive.publishNumber s o d b) ≡ true
+  publish-one : (d : List ℕ) → oneOf publishingReceive (Receive.publishNumber s o d b) ≡ true
   unfolding oneOf Receive.publishNumberOf entry
   publish-one d =
-      let next = one-need receivePublishes in
+      let next = one-need publishingReceive in
       next _ 1 _ refl (next _ 2 _ refl (next _ 3 _ refl (next _ 5 _ refl (next _ 12 _ refl (next _ 13 _ refl refl)))))
 
   publish-alike : (d e : List ℕ) → Alike d e → Receive.publishNumber s o d b ≡ Receive.publishNumber s o e b
   publish-alike d e a = rw (a .size)
 
-  publish-13 : (d : List ℕ) → Receive.publishBy 13 s o d b ≡ refusal 13 (s .len) s o b d
-  unfolding Receive.publishBy leaves comesBack
+  publish-13 : (d : List ℕ) → Receive.publishBy 13 s o d b ≡ refusal 13 (receivePublish o) s b d
+  unfolding Receive.publishBy leaves stateLeft
   publish-13 d = refl
 
   publish-other :
-      (c : ℕ) (d : List ℕ) → eqb c 0 ≡ false → oneOf receivePublishes c ≡ true → eqb c 13 ≡ false
-      → Receive.publishBy c s o d b ≡ refusal c (s .len) s o b d
-  unfolding Receive.publishBy leaves comesBack oneOf
+      (c : ℕ) (d : List ℕ) → eqb c 0 ≡ false → oneOf publishingReceive c ≡ true → eqb c 13 ≡ false
+      → Receive.publishBy c s o d b ≡ refusal c (receivePublish o) s b d
+  unfolding Receive.publishBy leaves stateLeft oneOf
   publish-other c d z p t =
-      rw (z, t, not-one receivePublishes c 7 p refl, not-one receivePublishes c 8 p refl, not-one receivePublishes c 9 p refl)
+      rw (z, t, not-one publishingReceive c 7 p refl, not-one publishingReceive c 8 p refl, not-one publishingReceive c 9 p refl)
 
   publish-refuses :
-      (c : ℕ) (d : List ℕ) → eqb c 0 ≡ false → oneOf receivePublishes c ≡ true
-      → Receive.publishBy c s o d b ≡ refusal c (s .len) s o b d
+      (c : ℕ) (d : List ℕ) → eqb c 0 ≡ false → oneOf publishingReceive c ≡ true
+      → Receive.publishBy c s o d b ≡ refusal c (receivePublish o) s b d
   publish-refuses c d z p =
       cases (eqb c 13)
       (λ t.
@@ -132,27 +133,27 @@ module _ (s : State) (o b : List ℕ) where
         same = λ d. refl;
       }
 
-  pub receive-publish : Says receivePublishes (s .len) s o b (λ (d : List ℕ). Receive.publish s o d b)
+  pub receive-publish : Says (receivePublish o) s b (λ (d : List ℕ). Receive.publishNumber s o d b)
   receive-publish =
-      says _ _ _ _ _ _ (λ d. Receive.publishNumber s o d b) (λ c d. Receive.publishBy c s o d b)
+      says _ _ _ _ (λ d. Receive.publishNumber s o d b) (λ c d. Receive.publishBy c s o d b)
       (λ d. refl) publish-one publish-alike publish-accepts publish-refuses
 
   -- the number of a whole receive at once, and its outcome by it
-  whole-number : List ℕ → ℕ
+  abbrev pub whole-number : List ℕ → ℕ
   whole-number d = receiveNumber (takeNumber (idle (length b) s) (s .own) (length o) d (length b) (getD b (s .own) 0)) (s .own) b
 
-  take-one : (d : List ℕ) → oneOf wholeReceives (takeNumber (idle (length b) s) (s .own) (length o) d (length b) (getD b (s .own) 0)) ≡ true
+  take-one : (d : List ℕ) → oneOf wholeReceiving (takeNumber (idle (length b) s) (s .own) (length o) d (length b) (getD b (s .own) 0)) ≡ true
   unfolding oneOf takeNumber entry receiveFound found
   take-one d =
-      let next = one-need wholeReceives in
+      let next = one-need wholeReceiving in
       next _ 1 _ refl (next _ 2 _ refl (next _ 3 _ refl (next _ 5 _ refl (next _ 6 _ refl (next _ 7 _ refl (next _ 8 _ refl (next _ 9 _ refl (next _ 11 _ refl refl))))))))
 
-  then-13 : (c : ℕ) → oneOf wholeReceives c ≡ true → oneOf wholeReceives (receiveNumber c (s .own) b) ≡ true
+  then-13 : (c : ℕ) → oneOf wholeReceiving c ≡ true → oneOf wholeReceiving (receiveNumber c (s .own) b) ≡ true
   unfolding oneOf receiveNumber
   then-13 c p =
-      cases (eqb c 0) (λ t. rw t (one-need wholeReceives _ 13 0 refl refl)) (λ t. rw t p)
+      cases (eqb c 0) (λ t. rw t (one-need wholeReceiving _ 13 0 refl refl)) (λ t. rw t p)
 
-  whole-one : (d : List ℕ) → oneOf wholeReceives (whole-number d) ≡ true
+  whole-one : (d : List ℕ) → oneOf wholeReceiving (whole-number d) ≡ true
   unfolding whole-number
   whole-one d = then-13 _ (take-one d)
 
@@ -160,19 +161,19 @@ module _ (s : State) (o b : List ℕ) where
   unfolding whole-number takeNumber
   whole-alike d e a = rw (a .size, a .heads, a .tails, a .statuses)
 
-  whole-13 : (d : List ℕ) → receiveOutcome s (receiveBy 13 (s .own) o d b) ≡ refusal 13 (lengthAt (s .own) b) s o b d
-  unfolding receiveBy leaves comesBack
+  whole-13 : (d : List ℕ) → receiveOutcome s (receiveBy 13 (s .own) o d b) ≡ refusal 13 (receiveWhole o) s b d
+  unfolding receiveBy leaves stateLeft
   whole-13 d = refl
 
   whole-other :
       (c : ℕ) (d : List ℕ) → eqb c 0 ≡ false → eqb c 13 ≡ false
-      → receiveOutcome s (receiveBy c (s .own) o d b) ≡ refusal c (lengthAt (s .own) b) s o b d
-  unfolding receiveBy marked leaves comesBack
+      → receiveOutcome s (receiveBy c (s .own) o d b) ≡ refusal c (receiveWhole o) s b d
+  unfolding receiveBy marked leaves stateLeft
   whole-other c d z t = rw (z, t)
 
   whole-refuses :
-      (c : ℕ) (d : List ℕ) → eqb c 0 ≡ false → oneOf wholeReceives c ≡ true
-      → receiveOutcome s (receiveBy c (s .own) o d b) ≡ refusal c (lengthAt (s .own) b) s o b d
+      (c : ℕ) (d : List ℕ) → eqb c 0 ≡ false → oneOf wholeReceiving c ≡ true
+      → receiveOutcome s (receiveBy c (s .own) o d b) ≡ refusal c (receiveWhole o) s b d
   whole-refuses c d z p =
       cases (eqb c 13)
       (λ t.
@@ -193,27 +194,16 @@ module _ (s : State) (o b : List ℕ) where
         same = λ d. refl;
       }
 
-  pub receive-whole : Says wholeReceives (lengthAt (s .own) b) s o b (λ (d : List ℕ). Receive.whole s o d b)
+  pub receive-whole : Says (receiveWhole o) s b (λ (d : List ℕ). whole-number d)
   unfolding whole-number
   receive-whole =
-      says _ _ _ _ _ _ whole-number (λ c d. receiveOutcome s (receiveBy c (s .own) o d b))
+      says _ _ _ _ whole-number (λ c d. receiveOutcome s (receiveBy c (s .own) o d b))
       (λ d. receive-at-once s o d b) whole-one whole-alike whole-accepts whole-refuses
 
 -- ---- opening
 
-opening-one : (d n : ℕ) → oneOf openings (openNumber d n) ≡ true
-unfolding oneOf openNumber
-opening-one d n =
-    let next = one-need openings in
-    next _ 1 _ refl (next _ 2 _ refl refl)
-
-pub opens : (d b : List ℕ) → OpeningSays d b (opening d b)
+pub opening-refused : (d b : List ℕ) → (opening d b .code ≡ 0 → ⊥) → OpeningRefused d b (opening d b)
 unfolding openBy
-opens d b =
-    record {
-      answers = opening-one (length d) (length b);
-      buffer = refl;
-      descriptor = λ z. rw (ne-eqb (openNumber (length d) (length b)) 0 z);
-      sender = λ z. rw (ne-eqb (openNumber (length d) (length b)) 0 z);
-      receiver = λ z. rw (ne-eqb (openNumber (length d) (length b)) 0 z);
-    }
+opening-refused d b z =
+    let n : eqb (openNumber (length d) (length b)) 0 ≡ false = ne-eqb (openNumber (length d) (length b)) 0 z in
+    record { descriptor = rw n; buffer = refl; sender = rw n; receiver = rw n }

@@ -1,4 +1,4 @@
--- The calls of a send say what Demand1 asks. Assumes nothing.
+-- The calls of a send leave what Demand1 asks. Assumes nothing.
 use Prim.Native.Nat.{ℕ, _+_, _%_}
 use mathlib.Core.Path.{_≡_, refl}
 use mathlib.Core.Bool.{Bool, true, false}
@@ -13,23 +13,24 @@ use Rattle.runs.specs.Buffer.{stored}
 use Rattle.channel.specs.State.{State, idleAt}
 use Rattle.channel.specs.Send
 use Rattle.channel.proofs.SendAtOnce.{send-at-once, sendOutcome}
-use Rattle.refusals.specs.Refusals.{Says, comesBack, goesOn, leaves, none, noOutput, oneOf, sendLooks}
-use Rattle.refusals.proofs.Laws.{Alike, mild-none, mild-set, not-one, one-need}
-use Rattle.refusals.proofs.Says.{Accepts, refusal, says}
+use Rattle.channel.specs.Operations.{sendLook, sendMove, sendPublish, sendWhole}
+use Rattle.refusals.specs.Leaves.{stateLeft, leaves}
+use Rattle.refusals.proofs.Laws.{Alike, goingOn, lookingSend, mild-none, mild-set, not-one, one-need, oneOf}
+use Rattle.refusals.proofs.Says.{Accepts, Says, refusal, says}
 
 -- ---- which numbers
 
-one-look : (fits : Bool) (own : ℕ) (m d : List ℕ) (n : ℕ) → oneOf sendLooks (numberAt fits own m d n) ≡ true
+one-look : (fits : Bool) (own : ℕ) (m d : List ℕ) (n : ℕ) → oneOf lookingSend (numberAt fits own m d n) ≡ true
 unfolding oneOf sendDecision entry sendFound found
 one-look fits own m d n =
-    let next = one-need sendLooks in
+    let next = one-need lookingSend in
     next _ 1 _ refl (next _ 2 _ refl (next _ 3 _ refl (next _ 4 _ refl (next _ 6 _ refl (next _ 7 _ refl (next _ 8 _ refl (next _ 10 _ refl refl)))))))
 
 -- of a move or a publish: a test after 1 to 3
-pub one-on : (d n : ℕ) (fits test : Bool) → oneOf goesOn (entry d n fits (need test 12 0)) ≡ true
+pub one-on : (d n : ℕ) (fits test : Bool) → oneOf goingOn (entry d n fits (need test 12 0)) ≡ true
 unfolding oneOf entry
 one-on d n fits test =
-    let next = one-need goesOn in
+    let next = one-need goingOn in
     next _ 1 _ refl (next _ 2 _ refl (next _ 3 _ refl (next _ 12 _ refl refl)))
 
 -- ---- the steps
@@ -39,25 +40,25 @@ unfolding sendDecision
 look-alike fits own m n d e a = rw (a .size, a .heads, a .tails, a .statuses)
 
 module _ (s : State) (m b : List ℕ) where
-  look-refuses : (c : ℕ) (d : List ℕ) → eqb c 0 ≡ false → oneOf sendLooks c ≡ true → Send.lookBy c s m d b ≡ refusal c none s noOutput b d
-  unfolding Send.lookBy marked leaves comesBack oneOf
-  look-refuses c d z p = rw (z, not-one sendLooks c 13 p refl)
+  look-refuses : (c : ℕ) (d : List ℕ) → eqb c 0 ≡ false → oneOf lookingSend c ≡ true → Send.lookBy c s m d b ≡ refusal c (sendLook m) s b d
+  unfolding Send.lookBy marked leaves stateLeft oneOf
+  look-refuses c d z p = rw (z, not-one lookingSend c 13 p refl)
 
   look-accepts : Accepts (λ (d : List ℕ). Send.lookBy 0 s m d b)
   unfolding Send.lookBy marked
   look-accepts =
       record { len = 0; next = Send.loaded s m; change = λ d. d; buf = b; out = []; is-mild = mild-none; same = λ d. refl }
 
-  pub send-look : Says sendLooks none s noOutput b (λ (d : List ℕ). Send.look s m d b)
+  pub send-look : Says (sendLook m) s b (λ (d : List ℕ). Send.lookNumber s m d b)
   send-look =
-      says _ _ _ _ _ _ (λ d. Send.lookNumber s m d b) (λ c d. Send.lookBy c s m d b)
+      says _ _ _ _ (λ d. Send.lookNumber s m d b) (λ c d. Send.lookBy c s m d b)
       (λ d. refl) (λ d. one-look _ _ m d _) (look-alike _ _ m _) look-accepts look-refuses
 
   whole-refuses :
-      (c : ℕ) (d : List ℕ) → eqb c 0 ≡ false → oneOf sendLooks c ≡ true
-      → sendOutcome s (sendBy c (s .own) m d b) ≡ refusal c none s noOutput b d
-  unfolding sendBy marked leaves comesBack oneOf
-  whole-refuses c d z p = rw (z, not-one sendLooks c 13 p refl)
+      (c : ℕ) (d : List ℕ) → eqb c 0 ≡ false → oneOf lookingSend c ≡ true
+      → sendOutcome s (sendBy c (s .own) m d b) ≡ refusal c (sendWhole m) s b d
+  unfolding sendBy marked leaves stateLeft oneOf
+  whole-refuses c d z p = rw (z, not-one lookingSend c 13 p refl)
 
   whole-accepts : Accepts (λ (d : List ℕ). sendOutcome s (sendBy 0 (s .own) m d b))
   unfolding sendBy
@@ -72,13 +73,13 @@ module _ (s : State) (m b : List ℕ) where
         same = λ d. refl;
       }
 
-  pub send-whole : Says sendLooks none s noOutput b (λ (d : List ℕ). Send.whole s m d b)
+  pub send-whole : Says (sendWhole m) s b (λ (d : List ℕ). Send.lookNumber s m d b)
   send-whole =
-      says _ _ _ _ _ _ (λ d. Send.lookNumber s m d b) (λ c d. sendOutcome s (sendBy c (s .own) m d b))
+      says _ _ _ _ (λ d. Send.lookNumber s m d b) (λ c d. sendOutcome s (sendBy c (s .own) m d b))
       (λ d. send-at-once s m d b) (λ d. one-look _ _ m d _) (look-alike _ _ m _) whole-accepts whole-refuses
 
 module _ (s : State) (b : List ℕ) where
-  move-one : (d : List ℕ) → oneOf goesOn (Send.moveNumber s d b) ≡ true
+  move-one : (d : List ℕ) → oneOf goingOn (Send.moveNumber s d b) ≡ true
   unfolding Send.moveNumber
   move-one d = one-on _ _ _ _
 
@@ -86,10 +87,10 @@ module _ (s : State) (b : List ℕ) where
   unfolding Send.moveNumber
   move-alike d e a = rw (a .size)
 
-  move-refuses : (c : ℕ) (d : List ℕ) → eqb c 0 ≡ false → oneOf goesOn c ≡ true → Send.moveBy c s d b ≡ refusal c none s noOutput b d
-  unfolding Send.moveBy leaves comesBack oneOf
+  move-refuses : (c : ℕ) (d : List ℕ) → eqb c 0 ≡ false → oneOf goingOn c ≡ true → Send.moveBy c s d b ≡ refusal c sendMove s b d
+  unfolding Send.moveBy leaves stateLeft oneOf
   move-refuses c d z p =
-      rw (z, not-one goesOn c 7 p refl, not-one goesOn c 8 p refl, not-one goesOn c 9 p refl, not-one goesOn c 13 p refl)
+      rw (z, not-one goingOn c 7 p refl, not-one goingOn c 8 p refl, not-one goingOn c 9 p refl, not-one goingOn c 13 p refl)
 
   move-accepts : Accepts (λ (d : List ℕ). Send.moveBy 0 s d b)
   unfolding Send.moveBy
@@ -104,12 +105,12 @@ module _ (s : State) (b : List ℕ) where
         same = λ d. refl;
       }
 
-  pub send-move : Says goesOn none s noOutput b (λ (d : List ℕ). Send.move s d b)
+  pub send-move : Says sendMove s b (λ (d : List ℕ). Send.moveNumber s d b)
   send-move =
-      says _ _ _ _ _ _ (λ d. Send.moveNumber s d b) (λ c d. Send.moveBy c s d b)
+      says _ _ _ _ (λ d. Send.moveNumber s d b) (λ c d. Send.moveBy c s d b)
       (λ d. refl) move-one move-alike move-accepts move-refuses
 
-  publish-one : (d : List ℕ) → oneOf goesOn (Send.publishNumber s d b) ≡ true
+  publish-one : (d : List ℕ) → oneOf goingOn (Send.publishNumber s d b) ≡ true
   unfolding Send.publishNumber
   publish-one d = one-on _ _ _ _
 
@@ -117,10 +118,10 @@ module _ (s : State) (b : List ℕ) where
   unfolding Send.publishNumber
   publish-alike d e a = rw (a .size)
 
-  publish-refuses : (c : ℕ) (d : List ℕ) → eqb c 0 ≡ false → oneOf goesOn c ≡ true → Send.publishBy c s d b ≡ refusal c none s noOutput b d
-  unfolding Send.publishBy leaves comesBack oneOf
+  publish-refuses : (c : ℕ) (d : List ℕ) → eqb c 0 ≡ false → oneOf goingOn c ≡ true → Send.publishBy c s d b ≡ refusal c sendPublish s b d
+  unfolding Send.publishBy leaves stateLeft oneOf
   publish-refuses c d z p =
-      rw (z, not-one goesOn c 7 p refl, not-one goesOn c 8 p refl, not-one goesOn c 9 p refl, not-one goesOn c 13 p refl)
+      rw (z, not-one goingOn c 7 p refl, not-one goingOn c 8 p refl, not-one goingOn c 9 p refl, not-one goingOn c 13 p refl)
 
   publish-accepts : Accepts (λ (d : List ℕ). Send.publishBy 0 s d b)
   unfolding Send.publishBy
@@ -135,7 +136,7 @@ module _ (s : State) (b : List ℕ) where
         same = λ d. refl;
       }
 
-  pub send-publish : Says goesOn none s noOutput b (λ (d : List ℕ). Send.publish s d b)
+  pub send-publish : Says sendPublish s b (λ (d : List ℕ). Send.publishNumber s d b)
   send-publish =
-      says _ _ _ _ _ _ (λ d. Send.publishNumber s d b) (λ c d. Send.publishBy c s d b)
+      says _ _ _ _ (λ d. Send.publishNumber s d b) (λ c d. Send.publishBy c s d b)
       (λ d. refl) publish-one publish-alike publish-accepts publish-refuses

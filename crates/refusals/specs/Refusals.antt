@@ -1,126 +1,144 @@
--- What a refusal leaves (document 01, 'The numbers that say no'), of the eight calls and of opening: one record, Demand1. It holds of every
--- state, message, output, descriptor and buffer: lists of any length and content, and states that fit or not.
-use Prim.Native.Nat.{ℕ, _+_, _%_}
+-- The customer's demand 1: any input gets an answer, refusals are given exactly when document 01 says, in its order, and leave what its table says.
+-- Every public call, the number that it answers, and one statement, Demand1, over the rows of Table.antt.
+use Prim.Native.Nat.{ℕ, _<_}
 use mathlib.Core.Path.{_≡_}
-use mathlib.Core.Bool.{Bool, true, false, _||_, cond}
+use mathlib.Core.Logic.{_↔_, _⊎_}
+use mathlib.Core.Bool.{true, false}
 use mathlib.Core.List.{List, [], _∷_}
-use lib.ListN.{length, getD, take, drop, set}
-use lib.Dec.{eqb}
-use Rattle.message.specs.Header.{totalLength}
-use Rattle.ring.specs.Ring.{HEAD, STATUS}
-use Rattle.channel.specs.State.{State, idleAt}
-use Rattle.channel.specs.Outcome.{Outcome}
-use Rattle.channel.specs.Opening.{Opening, opening}
-use Rattle.channel.specs.Send
-use Rattle.channel.specs.Receive
+use mathlib.Core.Option.{none}
+use Rattle.message.specs.Words.{packAnswer, unpackAnswer}
+use Rattle.message.specs.declared.Message.{Message}
+use Rattle.channel.specs.State.{State}
+use Rattle.channel.specs.Opening as Channel
+use Rattle.channel.specs.Operations.{Op, gives}
+use Rattle.firmware.specs.Css
+use Rattle.firmware.specs.Cpd
+use Rattle.firmware.specs.Inside
+use Rattle.firmware.specs.Version.{Reading, cssReading, hucReading, manifestReading}
+use Rattle.firmware.specs.declared.bytes.Located.{Located}
+use Rattle.firmware.specs.declared.css.Component.{Component}
+use Rattle.refusals.specs.Table.{Row, row-4, row-14-fields, openingRows, operationRows, imageRows, directoryRows, seekRows, entryRows, manifestRows}
+use Rattle.refusals.specs.Leaves.{OperationRefused, OpeningRefused, ReservedStay}
 
--- ---- what a refusal leaves
+-- ---- the public calls, with all that each is given
 
--- the column 'Leaves', of the descriptor: 7 'STATUS = 1', 8 'STATUS = 4', 9 'STATUS = 2', 13 'HEAD moved' past the message, else 'all'
-unfoldable pub leaves : ℕ → ℕ → List ℕ → List ℕ
-leaves number past d =
-    cond (eqb number 7) (set d STATUS 1)
-    (cond (eqb number 8) (set d STATUS 4) (cond (eqb number 9) (set d STATUS 2) (cond (eqb number 13) (set d HEAD past) d)))
+pub data PublicCall : Type 0 where
+  -- a channel: its opening, and the steps and whole calls of its two sides
+  opening : List ℕ → List ℕ → PublicCall
+  operation : Op → State → List ℕ → List ℕ → PublicCall
+  -- messages
+  packing : Message → PublicCall
+  unpacking : List ℕ → PublicCall
+  -- an image: where a component lies, the answer alone, the version
+  imagePart : Component → List ℕ → PublicCall
+  imageAnswer : List ℕ → PublicCall
+  imageVersion : List ℕ → PublicCall
+  -- a directory: where the part of a name lies; ours, for a list of all entries: what the directory has, where the part of an entry lies
+  namedPart : List ℕ → List ℕ → PublicCall
+  directory : List ℕ → PublicCall
+  entryPart : List ℕ → ℕ → PublicCall
+  -- what lies inside a directory: the manifest's version, and the image in `huc_fw`
+  manifestVersion : List ℕ → PublicCall
+  hucPart : Component → List ℕ → PublicCall
+  hucAnswer : List ℕ → PublicCall
+  hucVersion : List ℕ → PublicCall
 
--- 'The state comes back unchanged, except after 13, where it is idle past the message.'
-unfoldable pub comesBack : ℕ → ℕ → State → State
-comesBack number past s = cond (eqb number 13) (idleAt (s .n) past) s
+-- the number that a call answers, by the definition that its contract cites
+abbrev pub answer : PublicCall → ℕ
+answer (opening d b) = Channel.opening d b .code
+answer (operation op s d b) = gives op s d b .code
+answer (packing m) = packAnswer m .number
+answer (unpacking dwords) = unpackAnswer dwords .number
+answer (imagePart which blob) = Css.located which blob .code
+answer (imageAnswer blob) = Css.answer blob .code
+answer (imageVersion blob) = cssReading blob .number
+answer (namedPart blob name) = Cpd.located blob name .code
+answer (directory blob) = Cpd.entriesOf blob .code
+answer (entryPart blob i) = Cpd.entryLocated blob i .code
+answer (manifestVersion blob) = manifestReading blob .number
+answer (hucPart which blob) = Inside.hucLocated which blob .code
+answer (hucAnswer blob) = Inside.hucAnswer blob .code
+answer (hucVersion blob) = hucReading blob .number
 
--- the offset past a message of l dwords at the own offset: '(own head + L) mod N'
-abbrev pub past : State → ℕ → List ℕ → ℕ
-past s l b = (s .own + l) % length b
+-- what a call judges, one after another, each with its rows of the table: 'a part inside a directory is judged only after the directory's own
+-- numbers, 14 to 21, have passed'
+abbrev pub judged : PublicCall → List (List Row)
+judged (opening d b) = openingRows d b ∷ []
+judged (operation op s d b) = operationRows op s d b ∷ []
+judged (packing m) = (row-14-fields m ∷ []) ∷ []
+judged (unpacking dwords) = (row-4 dwords ∷ []) ∷ []
+judged (imagePart which blob) = imageRows blob ∷ []
+judged (imageAnswer blob) = imageRows blob ∷ []
+judged (imageVersion blob) = imageRows blob ∷ []
+judged (namedPart blob name) = seekRows blob name ∷ []
+judged (directory blob) = directoryRows blob ∷ []
+judged (entryPart blob i) = entryRows blob i ∷ []
+judged (manifestVersion blob) =
+    seekRows blob Inside.manifestName ∷ manifestRows (Inside.partNamed blob Inside.manifestName) ∷ []
+judged (hucPart which blob) = seekRows blob Inside.hucName ∷ imageRows (Inside.hucBlob blob) ∷ []
+judged (hucAnswer blob) = seekRows blob Inside.hucName ∷ imageRows (Inside.hucBlob blob) ∷ []
+judged (hucVersion blob) = seekRows blob Inside.hucName ∷ imageRows (Inside.hucBlob blob) ∷ []
 
--- a refused call: l is the L of the message that 13 passes over. 'Only 7, 8, 9 and 13 change lent memory', and of that only the descriptor
-pub record Refused (l : ℕ) (s : State) (o d b : List ℕ) (x : Outcome) : Type 0 where
-  pub state : x .next ≡ comesBack (x .code) (past s l b) s
-  pub descriptor : x .desc ≡ leaves (x .code) (past s l b) d
-  pub buffer : x .buf ≡ b
-  pub output : x .out ≡ o
-  -- 'L, which is 0 on a refusal'
-  pub no-length : x .len ≡ 0
+-- ---- exactly when, in its order
 
--- ---- which numbers a call answers
+-- a number applies: it has a row whose case is given
+unfoldable pub Applies : List Row → ℕ → Type 0
+Applies [] c = ⊥
+Applies (r ∷ rs) c = ((r .number ≡ c) × (r .given ≡ true)) ⊎ Applies rs c
 
--- a number is one of a list
-unfoldable pub oneOf : List ℕ → ℕ → Bool
-oneOf [] c = false
-oneOf (x ∷ xs) c = eqb c x || oneOf xs c
+-- none does
+abbrev pub NoneApplies : List Row → Type 0
+NoneApplies rs = (k : ℕ) → Applies rs k → ⊥
 
--- No call answers another number than those of its list; when it answers which, its chain says. 'An accepted call answers 0'.
--- 'Numbers 6 to 11 belong to looks', and so to whole calls, which look first
-abbrev pub sendLooks : List ℕ
-sendLooks = 0 ∷ 1 ∷ 2 ∷ 3 ∷ 4 ∷ 6 ∷ 7 ∷ 8 ∷ 10 ∷ []
+-- 'The lowest number that applies is the answer'
+pub record Lowest (rs : List Row) (c : ℕ) : Type 0 where
+  pub applies : Applies rs c
+  pub no-lower : (k : ℕ) → k < c → Applies rs k → ⊥
 
-abbrev pub receiveLooks : List ℕ
-receiveLooks = 0 ∷ 1 ∷ 2 ∷ 3 ∷ 6 ∷ 7 ∷ 8 ∷ 9 ∷ 11 ∷ []
+-- the answer to things judged one after another: the lowest number that applies to the first of them to which any does, and 0 where none applies to any
+unfoldable pub Answered : List (List Row) → ℕ → Type 0
+Answered [] c = c ≡ 0
+Answered (rs ∷ later) c = Lowest rs c ⊎ (NoneApplies rs × Answered later c)
 
--- 12 'publish before L dwords moved, or a move after L': both sides' moves, and a send's publish
-abbrev pub goesOn : List ℕ
-goesOn = 0 ∷ 1 ∷ 2 ∷ 3 ∷ 12 ∷ []
+-- none applies to any of them
+unfoldable pub AllPass : List (List Row) → Type 0
+AllPass [] = Unit {0}
+AllPass (rs ∷ later) = NoneApplies rs × AllPass later
 
--- 5 'output shorter than 256 (whole receive, receive's publish)', 13 'received message whole but malformed'
-abbrev pub receivePublishes : List ℕ
-receivePublishes = 0 ∷ 1 ∷ 2 ∷ 3 ∷ 5 ∷ 12 ∷ 13 ∷ []
+-- ---- what a refused call leaves and gives
 
-abbrev pub wholeReceives : List ℕ
-wholeReceives = 0 ∷ 1 ∷ 2 ∷ 3 ∷ 5 ∷ 6 ∷ 7 ∷ 8 ∷ 9 ∷ 11 ∷ 13 ∷ []
+-- 'a refused location gives the empty part at the start of the lent blob (the outer one, inside a directory)'
+pub record LocationRefused (l : Located) : Type 0 where
+  pub at-start : l .start ≡ 0
+  pub empty : l .len ≡ 0
+  pub not-truncated : l .truncated ≡ false
 
--- an opening 'refuses by 1, then 2'
-abbrev pub openings : List ℕ
-openings = 0 ∷ 1 ∷ 2 ∷ []
-
--- ---- reserved words
-
--- words '3 to 15 reserved' of a descriptor, and the three before them
-abbrev pub reserved : List ℕ → List ℕ
-reserved d = drop 3 d
-
-abbrev pub unreserved : List ℕ → List ℕ
-unreserved d = take 3 d
-
--- an outcome but for the reserved words of its descriptor
-abbrev pub seen : Outcome → Outcome
-seen x =
-    record { code = x .code; len = x .len; next = x .next; desc = unreserved (x .desc); buf = x .buf; out = x .out }
+-- Blobs, names and messages are lent to be read only: that they stay is a matter of type.
+unfoldable pub Leaves : PublicCall → Type 0
+Leaves (opening d b) = OpeningRefused d b (Channel.opening d b)
+Leaves (operation op s d b) = OperationRefused op s d b (gives op s d b)
+-- 'A refused packing answers no dword, a refused unpacking no message'
+Leaves (packing m) = packAnswer m .value ≡ none
+Leaves (unpacking dwords) = unpackAnswer dwords .value ≡ none
+Leaves (imagePart which blob) = LocationRefused (Css.located which blob)
+Leaves (imageAnswer blob) = Css.answer blob .truncated ≡ false
+Leaves (namedPart blob name) = LocationRefused (Cpd.located blob name)
+Leaves (directory blob) = Cpd.entriesOf blob .count ≡ 0
+Leaves (entryPart blob i) = LocationRefused (Cpd.entryLocated blob i)
+Leaves (hucPart which blob) = LocationRefused (Inside.hucLocated which blob)
+Leaves (hucAnswer blob) = Inside.hucAnswer blob .truncated ≡ false
+-- 'a refused version reading no version'
+Leaves (imageVersion blob) = cssReading blob .version ≡ []
+Leaves (manifestVersion blob) = manifestReading blob .version ≡ []
+Leaves (hucVersion blob) = hucReading blob .version ≡ []
 
 -- ---- the demand
 
--- of a call on every descriptor d, with the numbers that it may answer, the L that 13 passes over, the state, the output and the buffer
-pub record Says (may : List ℕ) (l : ℕ) (s : State) (o b : List ℕ) (call : List ℕ → Outcome) : Type 0 where
-  pub answers : (d : List ℕ) → oneOf may (call d .code) ≡ true
-  pub refused : (d : List ℕ) → (call d .code ≡ 0 → ⊥) → Refused l s o d b (call d)
-  -- 'Reserved words are neither judged nor changed', by accepted calls too: on a descriptor e that differs from d in them alone, all else comes
-  -- out the same
-  pub unchanged : (d : List ℕ) → reserved (call d .desc) ≡ reserved d
-  pub unjudged : (d e : List ℕ) → length d ≡ length e → unreserved d ≡ unreserved e → seen (call d) ≡ seen (call e)
-
--- of an opening: it 'leaves the buffer' always, and refused, the descriptor too, and 'gives two all-zero states, made for N 0'
-pub record OpeningSays (d b : List ℕ) (x : Opening) : Type 0 where
-  pub answers : oneOf openings (x .code) ≡ true
-  pub buffer : x .buf ≡ b
-  pub descriptor : (x .code ≡ 0 → ⊥) → x .desc ≡ d
-  pub sender : (x .code ≡ 0 → ⊥) → x .sender ≡ idleAt 0 0
-  pub receiver : (x .code ≡ 0 → ⊥) → x .receiver ≡ idleAt 0 0
-
--- the L of a call that never answers 13, and the output of one that is lent none
-abbrev pub none : ℕ
-none = 0
-
-abbrev pub noOutput : List ℕ
-noOutput = []
-
 pub record Demand1 : Type 0 where
-  pub send-look : (s : State) (m b : List ℕ) → Says sendLooks none s noOutput b (λ (d : List ℕ). Send.look s m d b)
-  pub send-move : (s : State) (b : List ℕ) → Says goesOn none s noOutput b (λ (d : List ℕ). Send.move s d b)
-  pub send-publish : (s : State) (b : List ℕ) → Says goesOn none s noOutput b (λ (d : List ℕ). Send.publish s d b)
-  pub send-whole : (s : State) (m b : List ℕ) → Says sendLooks none s noOutput b (λ (d : List ℕ). Send.whole s m d b)
-  pub receive-look : (s : State) (b : List ℕ) → Says receiveLooks none s noOutput b (λ (d : List ℕ). Receive.look s d b)
-  pub receive-move : (s : State) (b : List ℕ) → Says goesOn none s noOutput b (λ (d : List ℕ). Receive.move s d b)
-  -- a publish passes over the message in the state
-  pub receive-publish :
-      (s : State) (o b : List ℕ) → Says receivePublishes (s .len) s o b (λ (d : List ℕ). Receive.publish s o d b)
-  -- a whole receive passes over the message whose header is at the own head
-  pub receive-whole :
-      (s : State) (o b : List ℕ)
-      → Says wholeReceives (totalLength (getD b (s .own) 0)) s o b (λ (d : List ℕ). Receive.whole s o d b)
-  pub opens : (d b : List ℕ) → OpeningSays d b (opening d b)
+  -- a call answers c exactly when c applies and no lower number does, and 0 exactly when none does (no row has the number 0)
+  pub exact : (x : PublicCall) (c : ℕ) → (answer x ≡ c) ↔ Answered (judged x) c
+  pub accepts : (x : PublicCall) → (answer x ≡ 0) ↔ AllPass (judged x)
+  pub leaves : (x : PublicCall) → (answer x ≡ 0 → ⊥) → Leaves x
+  -- 'Opening .. leaves the buffer'
+  pub opening-buffer : (d b : List ℕ) → Channel.opening d b .buf ≡ b
+  pub reserved : (op : Op) (s : State) (b : List ℕ) → ReservedStay (λ (d : List ℕ). gives op s d b)

@@ -1,22 +1,134 @@
--- `demand_1` meets its contract, which says of each call what its own file proves. Assumes nothing.
-use Rattle.refusals.specs.Refusals.{Demand1}
+-- `demand_1` meets its contract: each call's number is that of the first row of the table that is given. Assumes nothing.
+use Prim.Native.Nat.{ℕ}
+use mathlib.Core.Path.{_≡_, refl, _∙_}
+use mathlib.Core.Bool.{true}
+use mathlib.Core.List.{List}
+use lib.ListN.{length}
+use borrow.Author.Tests.{ne-eqb}
+use Rattle.channel.specs.State.{State}
+use Rattle.channel.specs.Opening as Channel
+use Rattle.channel.specs.Operations.{Op, sendLook, sendMove, sendPublish, sendWhole, receiveLook, receiveMove, receivePublish, receiveWhole, gives}
+use Rattle.firmware.specs.Css
+use Rattle.firmware.specs.Cpd
+use Rattle.firmware.specs.Inside.{hucNumber, manifestNumber}
+use Rattle.firmware.specs.Version.{cssReading, hucReading, manifestReading, reading}
+use Rattle.firmware.specs.declared.css.Component.the-variants.{Ucode}
+use Rattle.firmware.proofs.Nowhere.{entry-nowhere, huc-nowhere, image-nowhere, name-nowhere}
+use Rattle.refusals.specs.Table.{operationRows}
+use Rattle.refusals.specs.Leaves.{OperationRefused, ReservedStay}
+use Rattle.refusals.specs.Refusals.{Demand1, Leaves, PublicCall, answer, directory, entryPart, hucAnswer, hucPart, hucVersion, imageAnswer, imagePart, imageVersion, judged, manifestVersion, namedPart, opening, operation, packing, unpacking}
 use Rattle.refusals.proofs.Sends.{send-look, send-move, send-publish, send-whole}
-use Rattle.refusals.proofs.Receives.{opens, receive-look, receive-move, receive-publish, receive-whole}
+use Rattle.refusals.proofs.Receives.{opening-refused, receive-look, receive-move, receive-publish, receive-whole}
+use Rattle.refusals.proofs.Lowest.{accepts, allRise, exactly, firstJudged, firstOf, rising}
+use Rattle.refusals.proofs.Rows.{opens, receive-looks, receive-moves, receive-publishes, receives-whole, send-looks, send-moves, send-publishes}
+use Rattle.refusals.proofs.Files.{alone, directory-number, entry-number, huc-number, image-number, location-refused, manifest-number, packs, reading-refused, refused-nothing, seek-number, unpacks}
 use Rattle.refusals.proofs.demand_1.Statement.{statement}
 use Rattle.refusals.proofs.demand_1.Tie as tie
 
+-- ---- operations
+
+operation-number : (op : Op) (s : State) (d b : List ℕ) → gives op s d b .code ≡ firstOf (operationRows op s d b)
+operation-number (sendLook m) s d b = send-look s m b .codes d ∙ send-looks s m d b
+operation-number sendMove s d b = send-move s b .codes d ∙ send-moves s d b
+operation-number sendPublish s d b = send-publish s b .codes d ∙ send-publishes s d b
+operation-number (sendWhole m) s d b = send-whole s m b .codes d ∙ send-looks s m d b
+operation-number receiveLook s d b = receive-look s b .codes d ∙ receive-looks s d b
+operation-number receiveMove s d b = receive-move s b .codes d ∙ receive-moves s d b
+operation-number (receivePublish o) s d b = receive-publish s o b .codes d ∙ receive-publishes s o d b
+operation-number (receiveWhole o) s d b = receive-whole s o b .codes d ∙ receives-whole s o d b
+
+operation-refused : (op : Op) (s : State) (d b : List ℕ) → (gives op s d b .code ≡ 0 → ⊥) → OperationRefused op s d b (gives op s d b)
+operation-refused (sendLook m) s d b = send-look s m b .refused d
+operation-refused sendMove s d b = send-move s b .refused d
+operation-refused sendPublish s d b = send-publish s b .refused d
+operation-refused (sendWhole m) s d b = send-whole s m b .refused d
+operation-refused receiveLook s d b = receive-look s b .refused d
+operation-refused receiveMove s d b = receive-move s b .refused d
+operation-refused (receivePublish o) s d b = receive-publish s o b .refused d
+operation-refused (receiveWhole o) s d b = receive-whole s o b .refused d
+
+operation-reserved : (op : Op) (s : State) (b : List ℕ) → ReservedStay (λ (d : List ℕ). gives op s d b)
+operation-reserved (sendLook m) s b = send-look s m b .stay
+operation-reserved sendMove s b = send-move s b .stay
+operation-reserved sendPublish s b = send-publish s b .stay
+operation-reserved (sendWhole m) s b = send-whole s m b .stay
+operation-reserved receiveLook s b = receive-look s b .stay
+operation-reserved receiveMove s b = receive-move s b .stay
+operation-reserved (receivePublish o) s b = receive-publish s o b .stay
+operation-reserved (receiveWhole o) s b = receive-whole s o b .stay
+
+-- ---- every call
+
+rise : (x : PublicCall) → allRise (judged x) ≡ true
+unfolding allRise rising
+rise (opening d b) = refl
+rise (operation (sendLook m) s d b) = refl
+rise (operation sendMove s d b) = refl
+rise (operation sendPublish s d b) = refl
+rise (operation (sendWhole m) s d b) = refl
+rise (operation receiveLook s d b) = refl
+rise (operation receiveMove s d b) = refl
+rise (operation (receivePublish o) s d b) = refl
+rise (operation (receiveWhole o) s d b) = refl
+rise (packing m) = refl
+rise (unpacking dwords) = refl
+rise (imagePart which blob) = refl
+rise (imageAnswer blob) = refl
+rise (imageVersion blob) = refl
+rise (namedPart blob name) = refl
+rise (directory blob) = refl
+rise (entryPart blob i) = refl
+rise (manifestVersion blob) = refl
+rise (hucPart which blob) = refl
+rise (hucAnswer blob) = refl
+rise (hucVersion blob) = refl
+
+number : (x : PublicCall) → answer x ≡ firstJudged (judged x)
+unfolding Channel.openBy Cpd.entriesOf cssReading hucReading manifestReading reading
+number (opening d b) = opens d b ∙ alone _
+number (operation op s d b) = operation-number op s d b ∙ alone _
+number (packing m) = packs m ∙ alone _
+number (unpacking dwords) = unpacks dwords ∙ alone _
+number (imagePart which blob) = image-number blob ∙ alone _
+number (imageAnswer blob) = image-number blob ∙ alone _
+number (imageVersion blob) = image-number blob ∙ alone _
+number (namedPart blob name) = seek-number blob name ∙ alone _
+number (directory blob) = directory-number blob ∙ alone _
+number (entryPart blob i) = entry-number blob i ∙ alone _
+number (manifestVersion blob) = manifest-number blob
+number (hucPart which blob) = huc-number blob
+number (hucAnswer blob) = huc-number blob
+number (hucVersion blob) = huc-number blob
+
+leaves : (x : PublicCall) → (answer x ≡ 0 → ⊥) → Leaves x
+unfolding Leaves Cpd.entriesOf cssReading hucReading manifestReading
+leaves (opening d b) z = opening-refused d b z
+leaves (operation op s d b) z = operation-refused op s d b z
+leaves (packing m) z = refused-nothing 14 _ z
+leaves (unpacking dwords) z = refused-nothing 4 _ z
+leaves (imagePart which blob) z = location-refused _ _ (image-nowhere blob which (ne-eqb (Css.number blob) 0 z))
+leaves (imageAnswer blob) z =
+    location-refused _ _ (image-nowhere blob Ucode (ne-eqb (Css.number blob) 0 z)) .not-truncated
+leaves (imageVersion blob) z = reading-refused _ _ z
+leaves (namedPart blob name) z =
+    location-refused (Cpd.number blob name) _ (rw (name-nowhere blob name (ne-eqb (Cpd.number blob name) 0 z)))
+leaves (directory blob) z = rw (ne-eqb (Cpd.directoryNumber blob) 0 z)
+leaves (entryPart blob i) z =
+    location-refused (Cpd.entryNumber blob i) _ (rw (entry-nowhere blob i (ne-eqb (Cpd.entryNumber blob i) 0 z)))
+leaves (manifestVersion blob) z = reading-refused _ _ z
+leaves (hucPart which blob) z = location-refused _ _ (huc-nowhere blob which (ne-eqb (hucNumber blob) 0 z))
+leaves (hucAnswer blob) z = location-refused _ _ (huc-nowhere blob Ucode (ne-eqb (hucNumber blob) 0 z)) .not-truncated
+leaves (hucVersion blob) z = reading-refused _ _ z
+
 demand1 : Demand1
+unfolding Channel.openBy
 demand1 =
     record {
-      send-look = send-look;
-      send-move = send-move;
-      send-publish = send-publish;
-      send-whole = send-whole;
-      receive-look = receive-look;
-      receive-move = receive-move;
-      receive-publish = receive-publish;
-      receive-whole = receive-whole;
-      opens = opens;
+      exact = λ x c. exactly (judged x) (answer x) c (rise x) (number x);
+      accepts = λ x. accepts (judged x) (answer x) (rise x) (number x);
+      leaves = leaves;
+      opening-buffer = λ d b. refl;
+      reserved = operation-reserved;
     }
 
 returns : tie.Need-returns

@@ -1,0 +1,52 @@
+-- What is refused is nowhere, and says no truncated. Assumes nothing.
+use Prim.Native.Nat.{ℕ}
+use mathlib.Core.Path.{_≡_, refl, sym, _∙_}
+use mathlib.Core.Bool.{Bool, true, false, not, cond}
+use mathlib.Core.List.{List}
+use lib.Dec.{eqb}
+use Rattle.firmware.specs.Bytes.{nowhere, placed}
+use Rattle.firmware.specs.Css
+use Rattle.firmware.specs.Cpd
+use Rattle.firmware.specs.Inside.{hucName, hucBlob, hucNumber, hucTruncated, hucPlace, hucLocated}
+use Rattle.firmware.specs.declared.css.Component.{Component}
+use Rattle.firmware.specs.declared.css.Component.the-variants.{Ucode, Rsa, Modulus, Exponent}
+
+-- a component of an image that is refused
+not-shown : (b : List ℕ) (which : Component) → Css.accepted b ≡ false → Css.shown which b ≡ false
+unfolding Css.shown
+not-shown b Ucode e = e
+not-shown b Rsa e = e
+not-shown b Modulus e = rw e
+not-shown b Exponent e = rw e
+
+pub image-nowhere : (b : List ℕ) (which : Component) → Css.accepted b ≡ false → Css.located which b ≡ placed (Css.number b) false nowhere
+unfolding Css.place Css.truncated
+image-nowhere b which e = rw (not-shown b which e, e)
+
+-- an entry, and a name, that is refused
+pub entry-nowhere : (b : List ℕ) (i : ℕ) → eqb (Cpd.entryNumber b i) 0 ≡ false → Cpd.entryPlace b i ≡ nowhere
+unfolding Cpd.entryPlace
+entry-nowhere b i e = rw e
+
+by-name : (b : List ℕ) (i : ℕ) (t : Bool) → eqb (cond t 14 (Cpd.entryNumber b i)) 0 ≡ false → cond t nowhere (Cpd.entryPlace b i) ≡ nowhere
+by-name b i true e = refl
+by-name b i false e = entry-nowhere b i e
+
+pub name-nowhere : (b name : List ℕ) → eqb (Cpd.number b name) 0 ≡ false → Cpd.place b name ≡ nowhere
+unfolding Cpd.number Cpd.place
+name-nowhere b name e = by-name b (Cpd.firstEntry b name) (not (Cpd.isName name)) e
+
+-- a component of the image in `huc_fw`, where the directory refuses, and where the image does
+pub huc-outside-nowhere : (b : List ℕ) (which : Component) → eqb (Cpd.number b hucName) 0 ≡ false → hucLocated which b ≡ placed (Cpd.number b hucName) false nowhere
+unfolding hucNumber hucTruncated hucPlace
+huc-outside-nowhere b which e = rw e
+
+pub huc-nowhere : (b : List ℕ) (which : Component) → eqb (hucNumber b) 0 ≡ false → hucLocated which b ≡ placed (hucNumber b) false nowhere
+unfolding hucNumber hucTruncated hucPlace Css.truncated
+huc-nowhere b which e = go (eqb (Cpd.number b hucName) 0) refl
+  where
+    go : (t : Bool) → eqb (Cpd.number b hucName) 0 ≡ t → hucLocated which b ≡ placed (hucNumber b) false nowhere
+    go true q =
+        let inner : Css.accepted (hucBlob b) ≡ false = rw q at e in
+        simp (q, inner, not-shown (hucBlob b) which inner)
+    go false q = simp q

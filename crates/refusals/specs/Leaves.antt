@@ -1,0 +1,88 @@
+-- What a refusal of an operation or an opening leaves: document 01's column 'Leaves', and the sentences beside its table.
+use Prim.Native.Nat.{ℕ, _+_, _%_}
+use mathlib.Core.Path.{_≡_}
+use mathlib.Core.Bool.{cond}
+use mathlib.Core.List.{List, []}
+use lib.ListN.{length, getD, take, drop, set}
+use lib.Dec.{eqb}
+use Rattle.message.specs.Header.{totalLength}
+use Rattle.ring.specs.Ring.{HEAD, STATUS, overflow, underflow, mismatch}
+use Rattle.channel.specs.State.{State, idleAt}
+use Rattle.channel.specs.Outcome.{Outcome}
+use Rattle.channel.specs.Opening.{Opening}
+use Rattle.channel.specs.Operations.{Op, sendLook, sendMove, sendPublish, sendWhole, receiveLook, receiveMove, receivePublish, receiveWhole}
+
+-- the column 'Leaves', of the descriptor: 7 'STATUS = 1', 8 'STATUS = 4', 9 'STATUS = 2', 13 'HEAD moved', here to the offset behind, else 'all'
+unfoldable pub leaves : ℕ → ℕ → List ℕ → List ℕ
+leaves number behind d =
+    cond (eqb number 7) (set d STATUS overflow)
+    (cond (eqb number 8) (set d STATUS mismatch)
+    (cond (eqb number 9) (set d STATUS underflow) (cond (eqb number 13) (set d HEAD behind) d)))
+
+-- 'The state comes back unchanged, except after 13, where it is idle past the message.'
+unfoldable pub stateLeft : ℕ → ℕ → State → State
+stateLeft number behind s = cond (eqb number 13) (idleAt (s .n) behind) s
+
+-- the L of the message that a 13 passes over: of the copied one at a publish, of the one at the own head in a whole receive. No other operation answers 13
+abbrev pub passedOver : Op → State → List ℕ → ℕ
+passedOver (sendLook m) s b = 0
+passedOver sendMove s b = 0
+passedOver sendPublish s b = 0
+passedOver (sendWhole m) s b = 0
+passedOver receiveLook s b = 0
+passedOver receiveMove s b = 0
+passedOver (receivePublish o) s b = s .len
+passedOver (receiveWhole o) s b = totalLength (getD b (s .own) 0)
+
+-- 'HEAD = (own head + L) mod N'
+abbrev pub behindIt : Op → State → List ℕ → ℕ
+behindIt op s b = (s .own + passedOver op s b) % length b
+
+-- the output that is lent to an operation, or no dword
+abbrev pub output : Op → List ℕ
+output (sendLook m) = []
+output sendMove = []
+output sendPublish = []
+output (sendWhole m) = []
+output receiveLook = []
+output receiveMove = []
+output (receivePublish o) = o
+output (receiveWhole o) = o
+
+-- a refused operation. 'Only 7, 8, 9 and 13 change lent memory', and of that only the descriptor
+pub record OperationRefused (op : Op) (s : State) (d b : List ℕ) (x : Outcome) : Type 0 where
+  pub state : x .next ≡ stateLeft (x .code) (behindIt op s b) s
+  pub descriptor : x .desc ≡ leaves (x .code) (behindIt op s b) d
+  pub buffer : x .buf ≡ b
+  pub unlaid : x .out ≡ output op
+  -- 'L, which is 0 on a refusal'
+  pub no-length : x .len ≡ 0
+
+-- a refused opening: it leaves all, and 'gives two all-zero states, made for N 0'
+pub record OpeningRefused (d b : List ℕ) (x : Opening) : Type 0 where
+  pub descriptor : x .desc ≡ d
+  pub buffer : x .buf ≡ b
+  pub sender : x .sender ≡ idleAt 0 0
+  pub receiver : x .receiver ≡ idleAt 0 0
+
+-- ---- reserved words
+
+-- words '3 to 15 reserved' of a descriptor, and the three before them
+abbrev pub reserved : List ℕ → List ℕ
+reserved d = drop 3 d
+
+abbrev pub unreserved : List ℕ → List ℕ
+unreserved d = take 3 d
+
+-- an outcome but for the reserved words of its descriptor
+abbrev pub butReserved : Outcome → Outcome
+butReserved x =
+    record { code = x .code; len = x .len; next = x .next; desc = unreserved (x .desc); buf = x .buf; out = x .out }
+
+-- 'Reserved words are neither judged nor changed', by accepted operations too: on a descriptor e that differs from d in them alone, all else comes out
+-- the same
+pub record ReservedStay (operation : List ℕ → Outcome) : Type 0 where
+  pub unchanged : (d : List ℕ) → reserved (operation d .desc) ≡ reserved d
+  pub unjudged :
+      (d e : List ℕ) → length d ≡ length e → unreserved d ≡ unreserved e
+      → butReserved (operation d) ≡ butReserved (operation e)

@@ -1,0 +1,191 @@
+-- Document 01, 'The numbers that say no', to be laid beside its table: a row for each number, in its order and words, then which rows each thing
+-- that is judged has. A row speaks of the call's inputs alone, never of another row: which of those that apply is the answer, Refusals.antt says.
+use Prim.Native.Nat.{ℕ, _+_, _-_, _*_}
+use mathlib.Core.Bool.{Bool, not, _&&_, _||_}
+use mathlib.Core.List.{List, [], _∷_, _++_}
+use lib.ListN.{length, getD}
+use lib.Dec.{eqb, leb, ltb}
+use Rattle.message.specs.Fields.{fit}
+use Rattle.message.specs.Header.{totalLength, wellFormed, isMessage}
+use Rattle.message.specs.Words.{headerFields, hxgFields}
+use Rattle.message.specs.declared.Message.{Message}
+use Rattle.ring.specs.Ring.{allowed, used, free, head, tail, status, good}
+use Rattle.ring.specs.AtOnce.{messageAt}
+use Rattle.channel.specs.State.{State, idle, activeSend, activeReceive, header, second}
+use Rattle.channel.specs.Operations.{Op, sendLook, sendMove, sendPublish, sendWhole, receiveLook, receiveMove, receivePublish, receiveWhole}
+use Rattle.firmware.specs.Css
+use Rattle.firmware.specs.Cpd
+
+-- a row: its number, and whether the call is what the paper gives it for
+pub record Row : Type 0 where
+  pub number : ℕ
+  pub given : Bool
+
+abbrev pub row : ℕ → Bool → Row
+row n when = record { number = n; given = when }
+
+-- ---- the table: 'No.', 'Given exactly when'
+
+-- 1 'descriptor is not 16 dwords'
+abbrev pub row-1 : List ℕ → Row
+row-1 desc = row 1 (not (eqb (length desc) 16))
+
+-- 2 'N not allowed'
+abbrev pub row-2 : List ℕ → Row
+row-2 buf = row 2 (not (allowed (length buf)))
+
+-- 3 'state doesn't fit': 'idle (.., asked only to look or for a whole call) or active (asked only to go on)'
+abbrev pub fits : Op → ℕ → State → Bool
+fits (sendLook m) n s = idle n s
+fits sendMove n s = activeSend n s
+fits sendPublish n s = activeSend n s
+fits (sendWhole m) n s = idle n s
+fits receiveLook n s = idle n s
+fits receiveMove n s = activeReceive n s
+fits (receivePublish o) n s = activeReceive n s
+fits (receiveWhole o) n s = idle n s
+
+abbrev pub row-3 : Op → State → List ℕ → Row
+row-3 op s buf = row 3 (not (fits op (length buf) s))
+
+-- 4 'message to send or unpack is malformed'
+abbrev pub row-4 : List ℕ → Row
+row-4 message = row 4 (not (isMessage message))
+
+-- 5 'output shorter than 256 (whole receive, receive's publish)'
+abbrev pub row-5 : List ℕ → Row
+row-5 output = row 5 (ltb (length output) 256)
+
+-- 6 'look finds STATUS not 0'
+abbrev pub row-6 : List ℕ → Row
+row-6 desc = row 6 (not (eqb (status desc) good))
+
+-- 7 'look finds HEAD or TAIL at least N'
+abbrev pub row-7 : List ℕ → List ℕ → Row
+row-7 desc buf = row 7 (leb (length buf) (head desc) || leb (length buf) (tail desc))
+
+-- 8 'sender's own tail is not TAIL, or receiver's own head is not HEAD'
+abbrev pub row-8-send : State → List ℕ → Row
+row-8-send s desc = row 8 (not (eqb (s .own) (tail desc)))
+
+abbrev pub row-8-receive : State → List ℕ → Row
+row-8-receive s desc = row 8 (not (eqb (s .own) (head desc)))
+
+-- 'used = (TAIL - HEAD) mod N; free = N - 1 - used', of the lent descriptor and buffer
+abbrev pub inUse : List ℕ → List ℕ → ℕ
+inUse desc buf = used (length buf) (head desc) (tail desc)
+
+abbrev pub unused : List ℕ → List ℕ → ℕ
+unused desc buf = free (length buf) (head desc) (tail desc)
+
+-- 9 'ring not empty and L exceeds used, at a receive's look': L by the header at the own head
+abbrev pub row-9 : State → List ℕ → List ℕ → Row
+row-9 s desc buf = row 9 (not (eqb (inUse desc buf) 0) && ltb (inUse desc buf) (totalLength (getD buf (s .own) 0)))
+
+-- 10 'L exceeds free, at a send's look': a message has exactly L dwords
+abbrev pub row-10 : List ℕ → List ℕ → List ℕ → Row
+row-10 message desc buf = row 10 (ltb (unused desc buf) (length message))
+
+-- 11 'nothing pending'
+abbrev pub row-11 : List ℕ → List ℕ → Row
+row-11 desc buf = row 11 (eqb (inUse desc buf) 0)
+
+-- 12 'publish before L dwords moved, or a move after L'
+abbrev pub row-12-publish : State → Row
+row-12-publish s = row 12 (ltb (s .moved) (s .len))
+
+abbrev pub row-12-move : State → Row
+row-12-move s = row 12 (leb (s .len) (s .moved))
+
+-- 13 'received message whole but malformed': the copied one at a publish, the one at the own head in a whole receive
+abbrev pub row-13 : ℕ → ℕ → Row
+row-13 first next = row 13 (not (wellFormed first next))
+
+-- 14 'field too wide, NUM_DWORDS 0, or name to seek not 1 to 12 bytes without a zero'
+abbrev pub row-14-fields : Message → Row
+row-14-fields m = row 14 (not (fit (headerFields m)) || not (fit (hxgFields m)) || eqb (m .«num_dwords») 0)
+
+abbrev pub row-14-name : List ℕ → Row
+row-14-name name = row 14 (not (Cpd.isName name))
+
+-- 15 'blob or part too short for its header': the bytes that each kind needs
+abbrev pub row-15 : ℕ → List ℕ → Row
+row-15 needed blob = row 15 (ltb (length blob) needed)
+
+-- 16 'CSS sizes disagree'
+abbrev pub row-16 : List ℕ → Row
+row-16 blob = row 16 (not (Css.agree (Css.sizes blob)))
+
+-- 17 'CSS part lies beyond the blob': 'Bytes 128 + 4(s - h) + 4k must be there'
+abbrev pub row-17 : List ℕ → Row
+row-17 blob =
+    row 17 (ltb (length blob) (128 + 4 * (Css.sizes blob .s - Css.sizes blob .h) + 4 * Css.sizes blob .k))
+
+-- 18 'CPD marker wrong or header length below 20'
+abbrev pub row-18 : List ℕ → Row
+row-18 blob = row 18 (not (Cpd.marked blob) || ltb (Cpd.headerLength blob) 20)
+
+-- 19 'CPD entries lie beyond the blob': 'H + 24n bytes must be there'
+abbrev pub row-19 : List ℕ → Row
+row-19 blob = row 19 (ltb (length blob) (Cpd.headerLength blob + 24 * Cpd.count blob))
+
+-- 20 'no entry of that name': not one of the n entries has it
+abbrev pub row-20 : List ℕ → List ℕ → Row
+row-20 blob name = row 20 (Cpd.all (λ i. not (Cpd.agrees blob name (Cpd.entryStart blob i))) (Cpd.count blob))
+
+-- ours, for an entry by its index: there is no such entry
+abbrev pub row-20-index : List ℕ → ℕ → Row
+row-20-index blob i = row 20 (leb (Cpd.count blob) i)
+
+-- 21 'entry's part lies beyond the blob', of entry i
+abbrev pub row-21 : List ℕ → ℕ → Row
+row-21 blob i = row 21 (ltb (length blob) (Cpd.entryPart blob (Cpd.entryStart blob i) .to))
+
+-- ---- which rows belong to what
+
+-- 'Numbers 6 to 11 belong to looks'
+abbrev pub sendLooks : State → List ℕ → List ℕ → List ℕ → List Row
+sendLooks s m d b = row-6 d ∷ row-7 d b ∷ row-8-send s d ∷ row-10 m d b ∷ []
+
+abbrev pub receiveLooks : State → List ℕ → List ℕ → List Row
+receiveLooks s d b = row-6 d ∷ row-7 d b ∷ row-8-receive s d ∷ row-9 s d b ∷ row-11 d b ∷ []
+
+-- what each operation has beside 1, 2 and 3
+abbrev pub ownRows : Op → State → List ℕ → List ℕ → List Row
+ownRows (sendLook m) s d b = row-4 m ∷ sendLooks s m d b
+ownRows sendMove s d b = row-12-move s ∷ []
+ownRows sendPublish s d b = row-12-publish s ∷ []
+ownRows (sendWhole m) s d b = row-4 m ∷ sendLooks s m d b
+ownRows receiveLook s d b = receiveLooks s d b
+ownRows receiveMove s d b = row-12-move s ∷ []
+ownRows (receivePublish o) s d b = row-5 o ∷ row-12-publish s ∷ row-13 (header s) (second s) ∷ []
+ownRows (receiveWhole o) s d b =
+    row-5 o ∷ receiveLooks s d b ++ (row-13 (getD b (s .own) 0) (getD (messageAt (s .own) b) 1 0) ∷ [])
+
+abbrev pub operationRows : Op → State → List ℕ → List ℕ → List Row
+operationRows op s d b = row-1 d ∷ row-2 b ∷ row-3 op s b ∷ ownRows op s d b
+
+-- 'It refuses by 1, then 2'
+abbrev pub openingRows : List ℕ → List ℕ → List Row
+openingRows d b = row-1 d ∷ row-2 b ∷ []
+
+-- 'CSS: at least 128 bytes, else 15. .. else 16. .. else 17.'
+abbrev pub imageRows : List ℕ → List Row
+imageRows blob = row-15 128 blob ∷ row-16 blob ∷ row-17 blob ∷ []
+
+-- 'CPD: at least 20 bytes, else 15'
+abbrev pub directoryRows : List ℕ → List Row
+directoryRows blob = row-15 20 blob ∷ row-18 blob ∷ row-19 blob ∷ []
+
+-- a name sought: 21 is of 'the first entry whose twelve bytes agree'
+abbrev pub seekRows : List ℕ → List ℕ → List Row
+seekRows blob name =
+    row-14-name name ∷ directoryRows blob ++ (row-20 blob name ∷ row-21 blob (Cpd.firstEntry blob name) ∷ [])
+
+-- ours: an entry by its index
+abbrev pub entryRows : List ℕ → ℕ → List Row
+entryRows blob i = directoryRows blob ++ (row-20-index blob i ∷ row-21 blob i ∷ [])
+
+-- '`HUCP.man` is a manifest: .. 44 bytes are needed, else 15'
+abbrev pub manifestRows : List ℕ → List Row
+manifestRows part = row-15 44 part ∷ []
