@@ -42,15 +42,16 @@ module _ (n : ℕ) (p : Span) (h : Lies n p) (k : ℕ) (t : Bool) {l : Located} 
 pub record Accepted (n : ℕ) (z : Sizes) : Type 0 where
   pub has-header : 128 ≤ n
   pub sum : z .h ≡ 32 + z .k + z .m + z .e
+  pub has-rsa : 1 ≤ z .k
   pub above : z .h < z .s
   pub there : 128 + 4 * (z .s - z .h) + 4 * z .k ≤ n
 
-pub sizes-agree : (z : Sizes) → Css.agree z ≡ true → (z .h ≡ 32 + z .k + z .m + z .e) × (z .h < z .s)
+pub sizes-agree : (z : Sizes) → Css.agree z ≡ true → (z .h ≡ 32 + z .k + z .m + z .e) × (z .h < z .s) × (1 ≤ z .k)
 unfolding Css.agree
 sizes-agree z e =
     let l = both (eqb (z .h) (32 + z .k + z .m + z .e) && leb 1 (z .k)) (ltb (z .h) (z .s)) e in
     let f = both (eqb (z .h) (32 + z .k + z .m + z .e)) (leb 1 (z .k)) (l .0) in
-    (eqb-true (z .h) (32 + z .k + z .m + z .e) (f .0), ltb-true (z .h) (z .s) (l .1))
+    (eqb-true (z .h) (32 + z .k + z .m + z .e) (f .0), ltb-true (z .h) (z .s) (l .1), leb-true 1 (z .k) (f .1))
 
 pub css-accepted : (b : List ℕ) → Css.number b ≡ 0 → Accepted (length b) (Css.sizes b)
 unfolding Css.number
@@ -63,6 +64,7 @@ css-accepted b e =
     let a = sizes-agree z (not-false (Css.agree z) (v .0)) in record {
       has-header = ltb-false (length b) 128 (u .0);
       sum = a .0;
+      has-rsa = a .2;
       above = a .1;
       there = ltb-false (length b) there (w .0);
     }

@@ -16,7 +16,7 @@ pub cases : {X : Type 0} (t : Bool) → (t ≡ true → X) → (t ≡ false → 
 cases true f g = f refl
 cases false f g = g refl
 
-true-false : {X : Type 0} → _≡_ {A = Bool} true false → X
+pub true-false : {X : Type 0} → _≡_ {A = Bool} true false → X
 true-false e = let z : _≡_ {A = ℕ} 0 1 = cc in absurd (omega arith)
 
 pub both : (a b : Bool) → (a && b) ≡ true → (a ≡ true) × (b ≡ true)

@@ -1,0 +1,154 @@
+-- CSS images agree with document 01. Assumes nothing.
+use Prim.Native.Nat.{ℕ, _+_, _-_, _*_, _≤_, _<_}
+use mathlib.Core.Path.{_≡_, refl, sym, ap, _∙_}
+use mathlib.Core.Logic.{_↔_}
+use mathlib.Core.Bool.{Bool, true, false, not, _&&_, cond}
+use mathlib.Core.List.{List, []}
+use native.Mathlib.Omega.{arith}
+use lib.ListN.{length, take, drop}
+use lib.Dec.{eqb, leb, ltb}
+use borrow.Author.Tests.{eq-eqb, eqb-true, ne-eqb, leb-true, leb-false, le-leb, lt-leb, not-true}
+use denote.Ref.{RefT, ptr, now}
+use Rattle.firmware.specs.Bytes.{PartOf, Span, nowhere, placed}
+use Rattle.firmware.specs.Css
+use Rattle.firmware.specs.Version.{cssReading, cssVersion, reading}
+use Rattle.firmware.specs.declared.bytes.Located.{Located}
+use Rattle.firmware.specs.declared.css.Component.{Component}
+use Rattle.firmware.specs.declared.css.Component.the-variants.{Ucode, Rsa, Modulus, Exponent}
+use Rattle.firmware.proofs.Lies.{Accepted, css-accepted, css-lies, located-ends}
+use Rattle.firmware.proofs.Nowhere.{image-nowhere}
+use Rattle.firmware.proofs.Tests.{both}
+use Rattle.agreement.specs.Images.{At, EmptyAtStart, ImageAccepted, Images, e, end, h, k, m, s}
+
+-- a location that is nowhere
+pub empty-at-start : (number : ℕ) (t : Bool) (l : Located) → l ≡ placed number t nowhere → EmptyAtStart number l
+empty-at-start number t l q = rw q (record { code = refl; at-start = refl; empty = refl })
+
+-- what is handed back for a place is the located bytes, where they lie
+pub very-bytes : (number : ℕ) (t : Bool) (p : Span) (blob part : RefT (List ℕ)) → PartOf blob p part
+    → (now part ≡ take (placed number t p .len) (drop (placed number t p .start) (now blob)))
+    × (ptr part .0 ≡ ptr blob .0)
+    × (ptr part .1 ≡ placed number t p .start + ptr blob .1)
+very-bytes number t p blob part x = (x .same-bytes, x .same-block, x .same-place)
+
+-- an image that is accepted
+module _ (b : List ℕ) (z : Css.number b ≡ 0) where
+  is-accepted : Css.accepted b ≡ true
+  is-accepted = eq-eqb (Css.number b) 0 z
+
+  facts : Accepted (length b) (Css.sizes b)
+  facts = css-accepted b z
+
+  -- a component that is shown, and one that is not
+  located-shown : (which : Component) → Css.shown which b ≡ true → Css.located which b ≡ placed 0 (Css.truncated b) (Css.laid which (Css.sizes b))
+  unfolding Css.place
+  located-shown which t = rw (z, t)
+
+  located-unshown : (which : Component) → Css.shown which b ≡ false → Css.located which b ≡ placed 0 (Css.truncated b) nowhere
+  unfolding Css.place
+  located-unshown which t = rw (z, t)
+
+  front : (which : Component) → Css.shown which b ≡ Css.accepted b → Css.located which b ≡ placed 0 (Css.truncated b) (Css.laid which (Css.sizes b))
+  front which q = located-shown which (q ∙ is-accepted)
+
+  shown-back : (which : Component) → Css.shown which b ≡ (Css.accepted b && Css.whole b) → 4 * s b ≤ length b → Css.shown which b ≡ true
+  unfolding Css.sizes
+  shown-back which q l = q ∙ rw (is-accepted, le-leb (4 * s b) (length b) l)
+
+  unshown-back : (which : Component) → Css.shown which b ≡ (Css.accepted b && Css.whole b) → length b < 4 * s b → Css.shown which b ≡ false
+  unfolding Css.sizes
+  unshown-back which q l = q ∙ rw (is-accepted, lt-leb (4 * s b) (length b) l)
+
+  at : (start len : ℕ) (t : Bool) (p : Span) (l : Located) → l ≡ placed 0 t p → p .from ≡ start → p .to - p .from ≡ len → At start len l
+  at start len t p l q f g = rw q (record { accepted = refl; starts = f; bytes = g })
+
+  ucode-shown : Css.located Ucode b ≡ placed 0 (Css.truncated b) (Css.laid Ucode (Css.sizes b))
+  unfolding Css.shown
+  ucode-shown = front Ucode refl
+
+  rsa-shown : Css.located Rsa b ≡ placed 0 (Css.truncated b) (Css.laid Rsa (Css.sizes b))
+  unfolding Css.shown
+  rsa-shown = front Rsa refl
+
+  modulus-shown : 4 * s b ≤ length b → Css.located Modulus b ≡ placed 0 (Css.truncated b) (Css.laid Modulus (Css.sizes b))
+  unfolding Css.shown
+  modulus-shown l = located-shown Modulus (shown-back Modulus refl l)
+
+  exponent-shown : 4 * s b ≤ length b → Css.located Exponent b ≡ placed 0 (Css.truncated b) (Css.laid Exponent (Css.sizes b))
+  unfolding Css.shown
+  exponent-shown l = located-shown Exponent (shown-back Exponent refl l)
+
+  back-unshown : (which : Component) → Css.shown which b ≡ (Css.accepted b && Css.whole b) → length b < 4 * s b → EmptyAtStart 0 (Css.located which b)
+  back-unshown which q l = empty-at-start 0 (Css.truncated b) _ (located-unshown which (unshown-back which q l))
+
+  -- the components, each behind the one before it
+  ucode-at : At 128 (4 * (s b - h b)) (Css.located Ucode b)
+  unfolding Css.laid Css.sizes
+  ucode-at = at _ _ _ _ _ ucode-shown refl (omega arith)
+
+  rsa-at : At (end (Css.located Ucode b)) (4 * k b) (Css.located Rsa b)
+  unfolding Css.laid Css.sizes
+  rsa-at = at _ _ _ _ _ rsa-shown (omega (arith, ucode-at .starts, ucode-at .bytes)) (omega arith)
+
+  modulus-at : 4 * s b ≤ length b → At (end (Css.located Rsa b)) (4 * m b) (Css.located Modulus b)
+  unfolding Css.laid Css.sizes
+  modulus-at l =
+      at _ _ _ _ _ (modulus-shown l) (omega (arith, ucode-at .starts, ucode-at .bytes, rsa-at .starts, rsa-at .bytes)) (omega arith)
+
+  exponent-at : 4 * s b ≤ length b → At (end (Css.located Modulus b)) (4 * e b) (Css.located Exponent b)
+  unfolding Css.laid Css.sizes
+  exponent-at l =
+      at _ _ _ _ _ (exponent-shown l)
+      (omega (arith, ucode-at .starts, ucode-at .bytes, rsa-at .starts, rsa-at .bytes, modulus-at l .starts, modulus-at l .bytes))
+      (omega arith)
+
+  at-4s : 4 * s b ≤ length b → end (Css.located Exponent b) ≡ 4 * s b
+  unfolding Css.sizes
+  at-4s l =
+      let f = facts in
+      omega
+      (arith, f .sum, f .above, ucode-at .starts, ucode-at .bytes, rsa-at .starts, rsa-at .bytes, modulus-at l .starts, modulus-at l .bytes, exponent-at l .starts, exponent-at l .bytes)
+
+  pub image-accepted : ImageAccepted b
+  unfolding Css.sizes Css.shown cssReading reading
+  image-accepted =
+      record {
+        has-header = facts .has-header;
+        sum = facts .sum;
+        has-rsa = facts .has-rsa;
+        has-ucode = facts .above;
+        there = facts .there;
+        ucode = ucode-at;
+        rsa = rsa-at;
+        modulus = modulus-at;
+        exponent = exponent-at;
+        ends-at-4s = at-4s;
+        no-modulus = back-unshown Modulus refl;
+        no-exponent = back-unshown Exponent refl;
+        reading-code = z;
+        reading = rw is-accepted refl;
+      }
+
+-- ---- every blob
+
+says-truncated : (b : List ℕ) → (Css.truncated b ≡ true) ↔ ((Css.number b ≡ 0) × (length b < 4 * s b))
+unfolding Css.truncated Css.sizes
+says-truncated b =
+    ((λ t.
+    let p = both (Css.accepted b) (not (Css.whole b)) t in
+    (eqb-true (Css.number b) 0 (p .0), leb-false (4 * s b) (length b) (not-true (Css.whole b) (p .1)))),
+    (λ p. rw (eq-eqb (Css.number b) 0 (p .0), lt-leb (4 * s b) (length b) (p .1))))
+
+pub images : Images
+unfolding cssReading reading
+images =
+    record {
+      accepted = image-accepted;
+      truncated = λ which b. says-truncated b;
+      same-number = λ which b. refl;
+      same-reading = λ b. refl;
+      refused = λ which b z. empty-at-start (Css.number b) false _ (image-nowhere b which (ne-eqb (Css.number b) 0 z));
+      no-version = λ b z. rw (ne-eqb (Css.number b) 0 z);
+      within = λ which b. located-ends (length b) (Css.place which b) (css-lies b which) (Css.number b) (Css.truncated b) refl;
+      very-bytes = λ which blob part. very-bytes (Css.number (now blob)) (Css.truncated (now blob)) (Css.place which (now blob)) blob part;
+    }
