@@ -133,11 +133,12 @@ module _ (b : List ℕ) (z : Css.number b ≡ 0) where
 
 says-truncated : (b : List ℕ) → (Css.truncated b ≡ true) ↔ ((Css.number b ≡ 0) × (length b < 4 * s b))
 unfolding Css.truncated Css.sizes
-says-truncated b =
-    ((λ t.
-    let p = both (Css.accepted b) (not (Css.whole b)) t in
-    (eqb-true (Css.number b) 0 (p .0), leb-false (4 * s b) (length b) (not-true (Css.whole b) (p .1)))),
-    (λ p. rw (eq-eqb (Css.number b) 0 (p .0), lt-leb (4 * s b) (length b) (p .1))))
+says-truncated b = (
+  (λ t.
+      let p = both (Css.accepted b) (not (Css.whole b)) t in
+      (eqb-true (Css.number b) 0 (p .0), leb-false (4 * s b) (length b) (not-true (Css.whole b) (p .1)))),
+  (λ p. rw (eq-eqb (Css.number b) 0 (p .0), lt-leb (4 * s b) (length b) (p .1))),
+)
 
 pub images : Images
 unfolding cssReading reading

@@ -1,6 +1,4 @@
 // CTB headers and HXG words: packing, unpacking, and what is well formed.
-ghost use Rattle.message.specs.Agreement.{Agreement};
-
 mod header;
 mod packing;
 mod unpacking;
@@ -48,9 +46,3 @@ pub enum Packed {
     Unfit,
     Dwords(u32, u32),
 }
-
-// Does nothing: it is here for its contract, that packing and unpacking agree with the tables and with each other, so that nothing passes
-// the gate without it.
-pub fn demand_2()
-    ensures { λ _. ⌜ Agreement ⌝ }
-{}
