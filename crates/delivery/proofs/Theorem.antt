@@ -16,6 +16,7 @@ use Rattle.ring.specs.Numbers.{need}
 use Rattle.channel.specs.Outcome.{Outcome}
 use Rattle.ring.specs.Ring.{allowed}
 use Rattle.runs.specs.Buffer.{stored, window}
+use Rattle.channel.specs.Steps.{moves, nextPlace}
 use Rattle.channel.specs.Send
 use Rattle.message.proofs.Tests.{cases}
 use Rattle.runs.proofs.Ring.{apart, window-mod}
@@ -107,7 +108,7 @@ module _ (n : ℕ) (b : List ℕ) (q : List (List ℕ)) (P R : ℕ) (r : Receivi
   clear s g k l h f w e =
       apart n (w .i) (P + k) (omega arith) (omega (arith, g .count)) (sym (w .at) ∙ e ∙ mod-add-mod P n k)
 
-  move-safe : (s : Sending) → Inv (plain n b q P R s r) → Plain.sendMoveNumber (plain n b q P R s r) ≡ 0 → Unreleased (plain n b q P R s r) j → j ≡ Send.place (sendState n P s) b → ⊥
+  move-safe : (s : Sending) → Inv (plain n b q P R s r) → Plain.sendMoveNumber (plain n b q P R s r) ≡ 0 → Unreleased (plain n b q P R s r) j → j ≡ nextPlace (sendState n P s) b → ⊥
   unfolding Plain.sendMoveNumber need
   move-safe notSending g e w f = omega arith
   move-safe (sending k m) g e w f =
@@ -120,20 +121,20 @@ module _ (n : ℕ) (b : List ℕ) (q : List (List ℕ)) (P R : ℕ) (r : Receivi
   -- midway through a whole send
   midway-place :
       (m : List ℕ) → Inv (plain n b q P R notSending r) → isMessage m ≡ true → leb (length m) (n - 1 - (P - R)) ≡ true → (k : ℕ) → k < length m
-      → Send.place (midway (channelOf (plain n b q P R notSending r)) m k .next) (midway (channelOf (plain n b q P R notSending r)) m k .buf) ≡ (P % n + k) % n
+      → nextPlace (midway (channelOf (plain n b q P R notSending r)) m k .next) (midway (channelOf (plain n b q P R notSending r)) m k .buf) ≡ (P % n + k) % n
   unfolding Plain.sendLookBy Plain.sendLookNumber need
   midway-place m g t u k h =
       let p : Plain = plain n b q P R notSending r in
       let l : SendSim p (Send.look (sendState n P notSending) m (descriptor p) b) (Plain.sendLook p m) = SendSteps.look-sim p g m in
-      let w : SendSim (Plain.sendLook p m .next) (Send.moves k (asSender (Plain.sendLook p m))) (Plain.sendMoves k (Plain.sendLook p m)) = SendSteps.moves-sim k (Plain.sendLook p m) (l .good) in
+      let w : SendSim (Plain.sendLook p m .next) (moves Send.move k (asSender (Plain.sendLook p m))) (Plain.sendMoves k (Plain.sendLook p m)) = SendSteps.moves-sim k (Plain.sendLook p m) (l .good) in
       let y : Plain.sendMoves k (Plain.sendLook p m) .next ≡ plain n (stored b n P (take k m)) q P R (sending k m) r = send-moves n b q P R r m k (Plain.sendLook p m) (omega arith) (rw (t, u)) in
       let z : length (stored b n P (take k m)) ≡ n = sym (ap (λ (v : Plain). length (v .buf)) y) ∙ w .good .size ∙ ap (λ (v : Plain). v .n) y in
-      ap (λ (a : Outcome). Send.place (a .next) (a .buf)) (ap (Send.moves k) (l .same) ∙ w .same) ∙ ap (λ (v : Plain). Send.place (senderOf v) (v .buf)) y ∙ ap (λ (x : ℕ). (P % n + k) % x) z
+      ap (λ (a : Outcome). nextPlace (a .next) (a .buf)) (ap (moves Send.move k) (l .same) ∙ w .same) ∙ ap (λ (v : Plain). nextPlace (senderOf v) (v .buf)) y ∙ ap (λ (x : ℕ). (P % n + k) % x) z
 
   whole-safe :
       (s : Sending) (m : List ℕ) → Inv (plain n b q P R s r) → Plain.sendLook (plain n b q P R s r) m .code ≡ 0
       → Unreleased (plain n b q P R s r) j → (k : ℕ) → k < length m
-      → j ≡ Send.place (midway (channelOf (plain n b q P R s r)) m k .next) (midway (channelOf (plain n b q P R s r)) m k .buf) → ⊥
+      → j ≡ nextPlace (midway (channelOf (plain n b q P R s r)) m k .next) (midway (channelOf (plain n b q P R s r)) m k .buf) → ⊥
   unfolding Plain.sendLookBy Plain.sendLookNumber need
   whole-safe notSending m g e w k h f =
       cases (isMessage m)
@@ -146,13 +147,13 @@ module _ (n : ℕ) (b : List ℕ) (q : List (List ℕ)) (P R : ℕ) (r : Receivi
   whole-safe (sending k₀ m₀) m g e w k h f = let z : _≡_ {A = ℕ} 3 0 = e in omega arith
 
   -- the place of a store in the plain channel's words
-  move-place : (s : Sending) → Inv (plain n b q P R s r) → j ≡ Send.place (sendState n P s) b → j ≡ (P + sendState n P s .moved) % n
+  move-place : (s : Sending) → Inv (plain n b q P R s r) → j ≡ nextPlace (sendState n P s) b → j ≡ (P + sendState n P s .moved) % n
   move-place notSending g f = rw (g .size) at f ∙ mod-add-mod P n 0
   move-place (sending k m) g f = rw (g .size) at f ∙ mod-add-mod P n k
 
   whole-place :
       (s : Sending) (m : List ℕ) → Inv (plain n b q P R s r) → Plain.sendLook (plain n b q P R s r) m .code ≡ 0 → (k : ℕ) → k < length m
-      → j ≡ Send.place (midway (channelOf (plain n b q P R s r)) m k .next) (midway (channelOf (plain n b q P R s r)) m k .buf)
+      → j ≡ nextPlace (midway (channelOf (plain n b q P R s r)) m k .next) (midway (channelOf (plain n b q P R s r)) m k .buf)
       → j ≡ (P + k) % n
   unfolding Plain.sendLookBy Plain.sendLookNumber need
   whole-place notSending m g e k h f =

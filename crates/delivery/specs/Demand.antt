@@ -11,6 +11,7 @@ use Rattle.ring.specs.Ring.{allowed, head, tail, used}
 use Rattle.runs.specs.Buffer.{window}
 use Rattle.channel.specs.Outcome.{Outcome}
 use Rattle.channel.specs.Opening.{opening}
+use Rattle.channel.specs.Steps.{moves, nextPlace}
 use Rattle.channel.specs.Send
 use Rattle.delivery.specs.Plain.{Plain, notSending, notReceiving, fresh, descriptor}
 use Rattle.delivery.specs.Operations.{Op, sendLook, sendMove, sendPublish, sendWhole, receiveLook, receiveMove, receivePublish, receiveWhole, Seen, Channel, begun, outcome, after, run, end, plainRun, plainEnd}
@@ -81,16 +82,16 @@ pub record Unreleased (p : Plain) (j : ℕ) : Type 0 where
 
 -- a whole send after its look and k of its stores
 abbrev pub midway : Channel → List ℕ → ℕ → Outcome
-midway x m k = Send.moves k (Send.look (x .sender) m (x .desc) (x .buf))
+midway x m k = moves Send.move k (Send.look (x .sender) m (x .desc) (x .buf))
 
 -- place j is where the operation stores dword k of its message, by the channel's own words: a move the next dword; a whole send, where its look is
 -- accepted, dword k after k others
 abbrev pub StoresAt : Channel → Op → ℕ → ℕ → Type 0
 StoresAt x (sendLook m) k j = ⊥
-StoresAt x sendMove k j = (outcome x sendMove .code ≡ 0) × (k ≡ x .sender .moved) × (j ≡ Send.place (x .sender) (x .buf))
+StoresAt x sendMove k j = (outcome x sendMove .code ≡ 0) × (k ≡ x .sender .moved) × (j ≡ nextPlace (x .sender) (x .buf))
 StoresAt x sendPublish k j = ⊥
 StoresAt x (sendWhole m) k j =
-    (outcome x (sendLook m) .code ≡ 0) × (k < length m) × (j ≡ Send.place (midway x m k .next) (midway x m k .buf))
+    (outcome x (sendLook m) .code ≡ 0) × (k < length m) × (j ≡ nextPlace (midway x m k .next) (midway x m k .buf))
 StoresAt x receiveLook k j = ⊥
 StoresAt x receiveMove k j = ⊥
 StoresAt x (receivePublish o) k j = ⊥

@@ -26,9 +26,9 @@ chosen at n t true p h =
     simp (away, d)
 chosen at n t false p h = refl
 
-outer-located : (at : ℕ) (which : Component) (i : List ℕ) → outer at (Css.located which i) ≡ placed (Css.number i) (Css.truncated i) (cond (Css.shown which i) (within at (Css.laid which (Css.sizes i))) nowhere)
+outer-located : (at : ℕ) (which : Component) (i : List ℕ) → outer at (Css.located which i) ≡ placed (Css.number i) (Css.truncated i) (cond (Css.shown which i) (within at (Css.spanOf which (Css.sizes i))) nowhere)
 unfolding Css.place
-outer-located at which i = chosen at (Css.number i) (Css.truncated i) (Css.shown which i) (Css.laid which (Css.sizes i)) (λ e. shown-beyond i which e .after)
+outer-located at which i = chosen at (Css.number i) (Css.truncated i) (Css.shown which i) (Css.spanOf which (Css.sizes i)) (λ e. shown-beyond i which e .after)
 
 -- a name that is refused is nowhere
 entry-nowhere : (b : List ℕ) (i : ℕ) → eqb (Cpd.entryNumber b i) 0 ≡ false → Cpd.entryPlace b i ≡ nowhere

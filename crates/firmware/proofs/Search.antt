@@ -6,7 +6,7 @@ use native.Mathlib.Numerals.{add-one}
 use mathlib.Core.Logic.{⊎-elim}
 use native.Mathlib.Nat.{eq-or-lt-of-le}
 use native.Mathlib.Omega.{arith}
-use Rattle.firmware.specs.Cpd.{all, first}
+use Rattle.firmware.specs.Cpd.{all, firstFrom}
 use Rattle.firmware.proofs.Tests.{both}
 
 pub all-more : (p : ℕ → Bool) (n : ℕ) → all p n ≡ true → p n ≡ true → all p (n + 1) ≡ true
@@ -39,28 +39,28 @@ unfolding all
 all-same p q zero h = refl
 all-same p q (suc n) h = rw (all-same p q n (λ j l. h j (omega arith)), h n (omega arith))
 
-pub first-same : (p q : ℕ → Bool) (i n : ℕ) → ((j : ℕ) → p j ≡ q j) → first p i n ≡ first q i n
-unfolding first
+pub first-same : (p q : ℕ → Bool) (i n : ℕ) → ((j : ℕ) → p j ≡ q j) → firstFrom p i n ≡ firstFrom q i n
+unfolding firstFrom
 first-same p q i zero h = refl
 first-same p q i (suc n) h = rw (h i, first-same p q (suc i) n h)
 
-first-step : (p : ℕ → Bool) (n i : ℕ) → i < n → first p i (n - i) ≡ cond (p i) i (first p (i + 1) (n - (i + 1)))
-unfolding first
+first-step : (p : ℕ → Bool) (n i : ℕ) → i < n → firstFrom p i (n - i) ≡ cond (p i) i (firstFrom p (i + 1) (n - (i + 1)))
+unfolding firstFrom
 first-step p n i h =
     let e : n - i ≡ suc (n - (i + 1)) = omega arith in
     rw (e, add-one i)
 
 -- a walk over n numbers that has come to i
 module _ (p : ℕ → Bool) (n : ℕ) where
-  pub begins : first p 0 n ≡ first p 0 (n - 0)
-  begins = ap (first p 0) (omega arith)
+  pub begins : firstFrom p 0 n ≡ firstFrom p 0 (n - 0)
+  begins = ap (firstFrom p 0) (omega arith)
 
-  pub passes : (i : ℕ) {x : ℕ} → i < n → p i ≡ false → x ≡ first p i (n - i) → x ≡ first p (i + 1) (n - (i + 1))
+  pub passes : (i : ℕ) {x : ℕ} → i < n → p i ≡ false → x ≡ firstFrom p i (n - i) → x ≡ firstFrom p (i + 1) (n - (i + 1))
   passes i h q e = e ∙ first-step p n i h ∙ rw q
 
-  pub finds : (i : ℕ) {x : ℕ} → i < n → p i ≡ true → x ≡ first p i (n - i) → i ≡ x
+  pub finds : (i : ℕ) {x : ℕ} → i < n → p i ≡ true → x ≡ firstFrom p i (n - i) → i ≡ x
   finds i h q e = sym (e ∙ first-step p n i h ∙ rw q)
 
-  pub ends : (i : ℕ) {x : ℕ} → n ≤ i → x ≡ first p i (n - i) → i ≡ x
-  unfolding first
+  pub ends : (i : ℕ) {x : ℕ} → n ≤ i → x ≡ firstFrom p i (n - i) → i ≡ x
+  unfolding firstFrom
   ends i h e = let z : n - i ≡ 0 = omega arith in sym (e ∙ rw z)

@@ -8,10 +8,11 @@ use lib.ListN.{length, getD, take, drop, set}
 use lib.Dec.{eqb}
 use borrow.Author.Tests.{eqb-true, ne-eqb}
 use Rattle.ring.specs.AtOnce.{lengthAt, messageAt, receiveBy, receiveNumber}
-use Rattle.ring.specs.Numbers.{entry, found, marked, receiveDecision, receiveFound, takeNumber}
+use Rattle.ring.specs.Numbers.{firstNeeds, lookNeeds, marked, receiveDecision, receiveLookNeeds, takeDecision}
 use Rattle.channel.specs.Opening.{openBy, openNumber, opening}
 use Rattle.ring.specs.Ring.{HEAD}
 use Rattle.channel.specs.State.{State, idle, idleAt}
+use Rattle.channel.specs.Steps.{nextPlace, pastMessage}
 use Rattle.channel.specs.Receive
 use Rattle.message.proofs.Tests.{cases}
 use Rattle.channel.proofs.ReceiveAtOnce.{receive-at-once, receiveOutcome}
@@ -24,7 +25,7 @@ use Rattle.refusals.proofs.Sends.{one-on}
 
 module _ (s : State) (b : List ℕ) where
   look-one : (d : List ℕ) → oneOf receiveLooks (Receive.lookNumber s d b) ≡ true
-  unfolding oneOf receiveDecision entry receiveFound found
+  unfolding oneOf receiveDecision firstNeeds receiveLookNeeds lookNeeds
   look-one d =
       let next = one-need receiveLooks in
       next _ 1 _ refl (next _ 2 _ refl (next _ 3 _ refl (next _ 6 _ refl (next _ 7 _ refl (next _ 8 _ refl (next _ 9 _ refl (next _ 11 _ refl refl)))))))
@@ -73,7 +74,7 @@ module _ (s : State) (b : List ℕ) where
   move-accepts =
       record {
         len = 0;
-        next = Receive.moved s (getD b (Receive.place s b) 0);
+        next = Receive.afterMove s (getD b (nextPlace s b) 0);
         change = λ d. d;
         buf = b;
         out = [];
@@ -90,7 +91,7 @@ module _ (s : State) (b : List ℕ) where
 
 module _ (s : State) (o b : List ℕ) where
   publish-one : (d : List ℕ) → oneOf receivePublishes (Receive.publishNumber s o d b) ≡ true
-  unfolding oneOf Receive.publishNumberOf entry
+  unfolding oneOf Receive.publishNumberOf firstNeeds
   publish-one d =
       let next = one-need receivePublishes in
       next _ 1 _ refl (next _ 2 _ refl (next _ 3 _ refl (next _ 5 _ refl (next _ 12 _ refl (next _ 13 _ refl refl)))))
@@ -124,11 +125,11 @@ module _ (s : State) (o b : List ℕ) where
   publish-accepts =
       record {
         len = s .len;
-        next = idleAt (s .n) (Receive.past s b);
-        change = λ d. set d HEAD (Receive.past s b);
+        next = idleAt (s .n) (pastMessage s b);
+        change = λ d. set d HEAD (pastMessage s b);
         buf = b;
         out = take (s .len) (s .copy) ++ drop (s .len) o;
-        is-mild = mild-set HEAD (Receive.past s b) (omega arith);
+        is-mild = mild-set HEAD (pastMessage s b) (omega arith);
         same = λ d. refl;
       }
 
@@ -139,10 +140,10 @@ module _ (s : State) (o b : List ℕ) where
 
   -- the number of a whole receive at once, and its outcome by it
   whole-number : List ℕ → ℕ
-  whole-number d = receiveNumber (takeNumber (idle (length b) s) (s .own) (length o) d (length b) (getD b (s .own) 0)) (s .own) b
+  whole-number d = receiveNumber (takeDecision (idle (length b) s) (s .own) (length o) d (length b) (getD b (s .own) 0)) (s .own) b
 
-  take-one : (d : List ℕ) → oneOf wholeReceives (takeNumber (idle (length b) s) (s .own) (length o) d (length b) (getD b (s .own) 0)) ≡ true
-  unfolding oneOf takeNumber entry receiveFound found
+  take-one : (d : List ℕ) → oneOf wholeReceives (takeDecision (idle (length b) s) (s .own) (length o) d (length b) (getD b (s .own) 0)) ≡ true
+  unfolding oneOf takeDecision firstNeeds receiveLookNeeds lookNeeds
   take-one d =
       let next = one-need wholeReceives in
       next _ 1 _ refl (next _ 2 _ refl (next _ 3 _ refl (next _ 5 _ refl (next _ 6 _ refl (next _ 7 _ refl (next _ 8 _ refl (next _ 9 _ refl (next _ 11 _ refl refl))))))))
@@ -157,7 +158,7 @@ module _ (s : State) (o b : List ℕ) where
   whole-one d = then-13 _ (take-one d)
 
   whole-alike : (d e : List ℕ) → Alike d e → whole-number d ≡ whole-number e
-  unfolding whole-number takeNumber
+  unfolding whole-number takeDecision
   whole-alike d e a = rw (a .size, a .heads, a .tails, a .statuses)
 
   whole-13 : (d : List ℕ) → receiveOutcome s (receiveBy 13 (s .own) o d b) ≡ refusal 13 (lengthAt (s .own) b) s o b d

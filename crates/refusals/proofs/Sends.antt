@@ -7,10 +7,11 @@ use native.Mathlib.Omega.{arith}
 use lib.ListN.{length, getD, set}
 use lib.Dec.{eqb}
 use Rattle.ring.specs.AtOnce.{sendBy}
-use Rattle.ring.specs.Numbers.{entry, found, marked, need, numberAt, sendDecision, sendFound}
+use Rattle.ring.specs.Numbers.{firstNeeds, lookNeeds, marked, need, numberAt, sendDecision, sendLookNeeds}
 use Rattle.ring.specs.Ring.{TAIL}
 use Rattle.runs.specs.Buffer.{stored}
 use Rattle.channel.specs.State.{State, idleAt}
+use Rattle.channel.specs.Steps.{nextPlace, pastMessage}
 use Rattle.channel.specs.Send
 use Rattle.channel.proofs.SendAtOnce.{send-at-once, sendOutcome}
 use Rattle.refusals.specs.Refusals.{Says, comesBack, goesOn, leaves, none, noOutput, oneOf, sendLooks}
@@ -20,14 +21,14 @@ use Rattle.refusals.proofs.Says.{Accepts, refusal, says}
 -- ---- which numbers
 
 one-look : (fits : Bool) (own : ℕ) (m d : List ℕ) (n : ℕ) → oneOf sendLooks (numberAt fits own m d n) ≡ true
-unfolding oneOf sendDecision entry sendFound found
+unfolding oneOf sendDecision firstNeeds sendLookNeeds lookNeeds
 one-look fits own m d n =
     let next = one-need sendLooks in
     next _ 1 _ refl (next _ 2 _ refl (next _ 3 _ refl (next _ 4 _ refl (next _ 6 _ refl (next _ 7 _ refl (next _ 8 _ refl (next _ 10 _ refl refl)))))))
 
 -- of a move or a publish: a test after 1 to 3
-pub one-on : (d n : ℕ) (fits test : Bool) → oneOf goesOn (entry d n fits (need test 12 0)) ≡ true
-unfolding oneOf entry
+pub one-on : (d n : ℕ) (fits test : Bool) → oneOf goesOn (firstNeeds d n fits (need test 12 0)) ≡ true
+unfolding oneOf firstNeeds
 one-on d n fits test =
     let next = one-need goesOn in
     next _ 1 _ refl (next _ 2 _ refl (next _ 3 _ refl (next _ 12 _ refl refl)))
@@ -96,9 +97,9 @@ module _ (s : State) (b : List ℕ) where
   move-accepts =
       record {
         len = 0;
-        next = Send.moved s;
+        next = Send.afterMove s;
         change = λ d. d;
-        buf = set b (Send.place s b) (getD (s .copy) (s .moved) 0);
+        buf = set b (nextPlace s b) (getD (s .copy) (s .moved) 0);
         out = [];
         is-mild = mild-none;
         same = λ d. refl;
@@ -127,11 +128,11 @@ module _ (s : State) (b : List ℕ) where
   publish-accepts =
       record {
         len = 0;
-        next = idleAt (s .n) (Send.past s b);
-        change = λ d. set d TAIL (Send.past s b);
+        next = idleAt (s .n) (pastMessage s b);
+        change = λ d. set d TAIL (pastMessage s b);
         buf = b;
         out = [];
-        is-mild = mild-set TAIL (Send.past s b) (omega arith);
+        is-mild = mild-set TAIL (pastMessage s b) (omega arith);
         same = λ d. refl;
       }
 
