@@ -22,16 +22,16 @@ use Rattle.ring.proofs.Chains.{ok}
 use Rattle.message.proofs.Tests.{cases}
 use Rattle.channel.proofs.Fits.{busy-active-receive, busy-idle, idle-active-receive, idle-idle}
 use Rattle.runs.proofs.Ring.{window-append, window-at, window-length}
-use Rattle.delivery.specs.Plain.{Answer, Plain, Receiving, Sending, descriptor, first, notReceiving, notSending, receiving, sending}
+use Rattle.delivery.specs.Plain.{PlainOutcome, Plain, Receiving, Sending, descriptor, first, notReceiving, notSending, receiving, sending}
 use Rattle.delivery.specs.Plain
 use Rattle.delivery.proofs.Invariant.{Inv, InvSend, bad, below-is, empty-receiving, first-needs-ok, look-needs-receive, own-receive, plain, receiveState, receiverOf, senderOf, used-eq}
 use Rattle.delivery.proofs.Queue.{flat}
 
-abbrev pub asReceiver : Answer → Outcome
+abbrev pub asReceiver : PlainOutcome → Outcome
 asReceiver x =
     record { code = x .code; len = x .len; next = receiverOf (x .next); desc = descriptor (x .next); buf = x .next .buf; out = x .out }
 
-pub record ReceiveSim (p : Plain) (a : Outcome) (x : Answer) : Type 0 where
+pub record ReceiveSim (p : Plain) (a : Outcome) (x : PlainOutcome) : Type 0 where
   pub same : a ≡ asReceiver x
   pub other : senderOf (x .next) ≡ senderOf p
   pub good : Inv (x .next)

@@ -24,16 +24,16 @@ use Rattle.ring.proofs.Chains.{ok}
 use Rattle.message.proofs.Tests.{cases}
 use Rattle.channel.proofs.Fits.{busy-active-send, busy-idle, idle-active-send, idle-idle}
 use Rattle.runs.proofs.Ring.{apart, window-append, window-set}
-use Rattle.delivery.specs.Plain.{Answer, Plain, Receiving, Sending, descriptor, first, notReceiving, notSending, receiving, sending}
+use Rattle.delivery.specs.Plain.{PlainOutcome, Plain, Receiving, Sending, descriptor, first, notReceiving, notSending, receiving, sending}
 use Rattle.delivery.specs.Plain
 use Rattle.delivery.proofs.Invariant.{AllMessages, Inv, InvReceive, bad, below-is, empty-receiving, first-needs-ok, look-needs-send, n-low, own-send, plain, receiveState, receiverOf, sendState, senderOf, used-eq}
 use Rattle.delivery.proofs.Queue.{flat, flat-snoc}
 
-abbrev pub asSender : Answer → Outcome
+abbrev pub asSender : PlainOutcome → Outcome
 asSender x =
     record { code = x .code; len = x .len; next = senderOf (x .next); desc = descriptor (x .next); buf = x .next .buf; out = x .out }
 
-pub record SendSim (p : Plain) (a : Outcome) (x : Answer) : Type 0 where
+pub record SendSim (p : Plain) (a : Outcome) (x : PlainOutcome) : Type 0 where
   pub same : a ≡ asSender x
   pub other : receiverOf (x .next) ≡ receiverOf p
   pub good : Inv (x .next)
@@ -228,7 +228,7 @@ module _ (p : Plain) (g : Inv p) where
 
 -- ---- a whole send
 
-pub moves-sim : (k : ℕ) (x : Answer) → Inv (x .next) → SendSim (x .next) (moves Send.move k (asSender x)) (Plain.sendMoves k x)
+pub moves-sim : (k : ℕ) (x : PlainOutcome) → Inv (x .next) → SendSim (x .next) (moves Send.move k (asSender x)) (Plain.sendMoves k x)
 unfolding moves Plain.sendMoves
 moves-sim zero x g = record { same = refl; other = refl; good = g }
 moves-sim (suc k) x g =
@@ -236,8 +236,8 @@ moves-sim (suc k) x g =
     let i : SendSim (Plain.sendMove (x .next) .next) _ (Plain.sendMoves k (Plain.sendMove (x .next))) = moves-sim k (Plain.sendMove (x .next)) (h .good) in
     record { same = ap (moves Send.move k) (h .same) ∙ i .same; other = i .other ∙ h .other; good = i .good }
 
-whole-from : (p : Plain) (l : ℕ) (a : Outcome) (x : Answer) → SendSim p a x → SendSim p (Send.afterLook l a) (Plain.sendRest l x)
-unfolding Send.afterLook Plain.sendRest
+whole-from : (p : Plain) (l : ℕ) (a : Outcome) (x : PlainOutcome) → SendSim p a x → SendSim p (Send.afterLook l a) (Plain.sendAfterLook l x)
+unfolding Send.afterLook Plain.sendAfterLook
 whole-from p l a x f =
     let w : SendSim (x .next) (moves Send.move l (asSender x)) (Plain.sendMoves l x) = moves-sim l x (f .good) in
     let y : Plain = Plain.sendMoves l x .next in

@@ -11,12 +11,12 @@ use Rattle.channel.specs.Steps.{moves}
 use Rattle.channel.specs.Receive
 use Rattle.ring.proofs.Chains.{ok}
 use Rattle.message.proofs.Tests.{cases}
-use Rattle.delivery.specs.Plain.{Answer, Plain, Receiving, descriptor, first, notReceiving, receiving}
+use Rattle.delivery.specs.Plain.{PlainOutcome, Plain, Receiving, descriptor, first, notReceiving, receiving}
 use Rattle.delivery.specs.Plain
 use Rattle.delivery.proofs.Invariant.{Inv, bad, first-needs-ok, plain, receiveState, receiverOf}
 use Rattle.delivery.proofs.ReceiveSteps.{ReceiveSim, asReceiver, fits-idle, fits-not, look-sim, move-sim, pub-sim}
 
-pub moves-sim : (k : ℕ) (x : Answer) → Inv (x .next) → ReceiveSim (x .next) (moves Receive.move k (asReceiver x)) (Plain.receiveMoves k x)
+pub moves-sim : (k : ℕ) (x : PlainOutcome) → Inv (x .next) → ReceiveSim (x .next) (moves Receive.move k (asReceiver x)) (Plain.receiveMoves k x)
 unfolding moves Plain.receiveMoves
 moves-sim zero x g = record { same = refl; other = refl; good = g }
 moves-sim (suc k) x g =
@@ -29,9 +29,9 @@ unfolding Plain.receiveLookBy
 look-len p e = rw e
 
 whole-from :
-    (p : Plain) (l : ℕ) (o : List ℕ) (a : Outcome) (x : Answer) → ReceiveSim p a x → (eqb (x .code) 0 ≡ true → receiverOf (x .next) .len ≡ l)
-    → ReceiveSim p (Receive.afterLook o a) (Plain.receiveRest l o x)
-unfolding Receive.afterLook Plain.receiveRest
+    (p : Plain) (l : ℕ) (o : List ℕ) (a : Outcome) (x : PlainOutcome) → ReceiveSim p a x → (eqb (x .code) 0 ≡ true → receiverOf (x .next) .len ≡ l)
+    → ReceiveSim p (Receive.afterLook o a) (Plain.receiveAfterLook l o x)
+unfolding Receive.afterLook Plain.receiveAfterLook
 whole-from p l o a x f e =
     let w : ReceiveSim (x .next) (moves Receive.move (l - 1) (asReceiver x)) (Plain.receiveMoves (l - 1) x) = moves-sim (l - 1) x (f .good) in
     let y : Plain = Plain.receiveMoves (l - 1) x .next in
