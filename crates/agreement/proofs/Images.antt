@@ -33,14 +33,14 @@ very-bytes number t p blob part x = (x .same-bytes, x .same-block, x .same-place
 
 -- an image that is accepted
 module _ (b : List ℕ) (z : Css.number b ≡ 0) where
-  is-accepted : Css.accepted b ≡ true
+  is-accepted : Css.isImage b ≡ true
   is-accepted = eq-eqb (Css.number b) 0 z
 
   facts : Accepted (length b) (Css.sizes b)
   facts = css-accepted b z
 
   -- a component that is shown, and one that is not
-  located-shown : (which : Component) → Css.shown which b ≡ true → Css.located which b ≡ placed 0 (Css.truncated b) (Css.laid which (Css.sizes b))
+  located-shown : (which : Component) → Css.shown which b ≡ true → Css.located which b ≡ placed 0 (Css.truncated b) (Css.spanOf which (Css.sizes b))
   unfolding Css.place
   located-shown which t = rw (z, t)
 
@@ -48,55 +48,55 @@ module _ (b : List ℕ) (z : Css.number b ≡ 0) where
   unfolding Css.place
   located-unshown which t = rw (z, t)
 
-  front : (which : Component) → Css.shown which b ≡ Css.accepted b → Css.located which b ≡ placed 0 (Css.truncated b) (Css.laid which (Css.sizes b))
+  front : (which : Component) → Css.shown which b ≡ Css.isImage b → Css.located which b ≡ placed 0 (Css.truncated b) (Css.spanOf which (Css.sizes b))
   front which q = located-shown which (q ∙ is-accepted)
 
-  shown-back : (which : Component) → Css.shown which b ≡ (Css.accepted b && Css.whole b) → 4 * s b ≤ length b → Css.shown which b ≡ true
+  shown-back : (which : Component) → Css.shown which b ≡ (Css.isImage b && Css.allThere b) → 4 * s b ≤ length b → Css.shown which b ≡ true
   unfolding Css.sizes
   shown-back which q l = q ∙ rw (is-accepted, le-leb (4 * s b) (length b) l)
 
-  unshown-back : (which : Component) → Css.shown which b ≡ (Css.accepted b && Css.whole b) → length b < 4 * s b → Css.shown which b ≡ false
+  unshown-back : (which : Component) → Css.shown which b ≡ (Css.isImage b && Css.allThere b) → length b < 4 * s b → Css.shown which b ≡ false
   unfolding Css.sizes
   unshown-back which q l = q ∙ rw (is-accepted, lt-leb (4 * s b) (length b) l)
 
   at : (start len : ℕ) (t : Bool) (p : Span) (l : Located) → l ≡ placed 0 t p → p .from ≡ start → p .to - p .from ≡ len → At start len l
   at start len t p l q f g = rw q (record { accepted = refl; starts = f; bytes = g })
 
-  ucode-shown : Css.located Ucode b ≡ placed 0 (Css.truncated b) (Css.laid Ucode (Css.sizes b))
+  ucode-shown : Css.located Ucode b ≡ placed 0 (Css.truncated b) (Css.spanOf Ucode (Css.sizes b))
   unfolding Css.shown
   ucode-shown = front Ucode refl
 
-  rsa-shown : Css.located Rsa b ≡ placed 0 (Css.truncated b) (Css.laid Rsa (Css.sizes b))
+  rsa-shown : Css.located Rsa b ≡ placed 0 (Css.truncated b) (Css.spanOf Rsa (Css.sizes b))
   unfolding Css.shown
   rsa-shown = front Rsa refl
 
-  modulus-shown : 4 * s b ≤ length b → Css.located Modulus b ≡ placed 0 (Css.truncated b) (Css.laid Modulus (Css.sizes b))
+  modulus-shown : 4 * s b ≤ length b → Css.located Modulus b ≡ placed 0 (Css.truncated b) (Css.spanOf Modulus (Css.sizes b))
   unfolding Css.shown
   modulus-shown l = located-shown Modulus (shown-back Modulus refl l)
 
-  exponent-shown : 4 * s b ≤ length b → Css.located Exponent b ≡ placed 0 (Css.truncated b) (Css.laid Exponent (Css.sizes b))
+  exponent-shown : 4 * s b ≤ length b → Css.located Exponent b ≡ placed 0 (Css.truncated b) (Css.spanOf Exponent (Css.sizes b))
   unfolding Css.shown
   exponent-shown l = located-shown Exponent (shown-back Exponent refl l)
 
-  back-unshown : (which : Component) → Css.shown which b ≡ (Css.accepted b && Css.whole b) → length b < 4 * s b → EmptyAtStart 0 (Css.located which b)
+  back-unshown : (which : Component) → Css.shown which b ≡ (Css.isImage b && Css.allThere b) → length b < 4 * s b → EmptyAtStart 0 (Css.located which b)
   back-unshown which q l = empty-at-start 0 (Css.truncated b) _ (located-unshown which (unshown-back which q l))
 
   -- the components, each behind the one before it
   ucode-at : At 128 (4 * (s b - h b)) (Css.located Ucode b)
-  unfolding Css.laid Css.sizes
+  unfolding Css.spanOf Css.sizes
   ucode-at = at _ _ _ _ _ ucode-shown refl (omega arith)
 
   rsa-at : At (end (Css.located Ucode b)) (4 * k b) (Css.located Rsa b)
-  unfolding Css.laid Css.sizes
+  unfolding Css.spanOf Css.sizes
   rsa-at = at _ _ _ _ _ rsa-shown (omega (arith, ucode-at .starts, ucode-at .bytes)) (omega arith)
 
   modulus-at : 4 * s b ≤ length b → At (end (Css.located Rsa b)) (4 * m b) (Css.located Modulus b)
-  unfolding Css.laid Css.sizes
+  unfolding Css.spanOf Css.sizes
   modulus-at l =
       at _ _ _ _ _ (modulus-shown l) (omega (arith, ucode-at .starts, ucode-at .bytes, rsa-at .starts, rsa-at .bytes)) (omega arith)
 
   exponent-at : 4 * s b ≤ length b → At (end (Css.located Modulus b)) (4 * e b) (Css.located Exponent b)
-  unfolding Css.laid Css.sizes
+  unfolding Css.spanOf Css.sizes
   exponent-at l =
       at _ _ _ _ _ (exponent-shown l)
       (omega (arith, ucode-at .starts, ucode-at .bytes, rsa-at .starts, rsa-at .bytes, modulus-at l .starts, modulus-at l .bytes))
@@ -135,8 +135,8 @@ says-truncated : (b : List ℕ) → (Css.truncated b ≡ true) ↔ ((Css.number 
 unfolding Css.truncated Css.sizes
 says-truncated b = (
   (λ t.
-      let p = both (Css.accepted b) (not (Css.whole b)) t in
-      (eqb-true (Css.number b) 0 (p .0), leb-false (4 * s b) (length b) (not-true (Css.whole b) (p .1)))),
+      let p = both (Css.isImage b) (not (Css.allThere b)) t in
+      (eqb-true (Css.number b) 0 (p .0), leb-false (4 * s b) (length b) (not-true (Css.allThere b) (p .1)))),
   (λ p. rw (eq-eqb (Css.number b) 0 (p .0), lt-leb (4 * s b) (length b) (p .1))),
 )
 

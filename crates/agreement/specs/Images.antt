@@ -31,22 +31,22 @@ pub record EmptyAtStart (number : ℕ) (l : Located) : Type 0 where
 
 -- 'Dwords: 1 = h (all that is not uCode), 6 = s (all), 7 = k (RSA), 8 = m (modulus), 9 = e (exponent), 16 = version'; 'Sizes are in dwords.'
 abbrev pub h : List ℕ → ℕ
-h b = Css.dword b 1
+h b = Css.headerDword b 1
 
 abbrev pub s : List ℕ → ℕ
-s b = Css.dword b 6
+s b = Css.headerDword b 6
 
 abbrev pub k : List ℕ → ℕ
-k b = Css.dword b 7
+k b = Css.headerDword b 7
 
 abbrev pub m : List ℕ → ℕ
-m b = Css.dword b 8
+m b = Css.headerDword b 8
 
 abbrev pub e : List ℕ → ℕ
-e b = Css.dword b 9
+e b = Css.headerDword b 9
 
 abbrev pub version : List ℕ → ℕ
-version b = Css.dword b 16
+version b = Css.headerDword b 16
 
 -- what any blob has that is accepted
 pub record ImageAccepted (b : List ℕ) : Type 0 where

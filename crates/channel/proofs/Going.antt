@@ -7,7 +7,7 @@ use lib.Dec.{eqb}
 use borrow.Author.Tests.{eqb-true, leb-true, ltb-true}
 use Rattle.message.specs.Header.{totalLength}
 use Rattle.message.proofs.Tests.{and-l, and-r}
-use Rattle.ring.specs.Numbers.{entry, need}
+use Rattle.ring.specs.Numbers.{firstNeeds, need}
 use Rattle.ring.specs.Ring.{allowed}
 use Rattle.runs.specs.Buffer.{past}
 use Rattle.ring.proofs.Chains.{allowed-high, entered, entered-fits, entered-rest, passed, passed-rest}
@@ -69,20 +69,20 @@ pub record Going (n : ℕ) (s : State) : Type 0 where
   pub within : s .moved ≤ s .len
 
 module _ (d n : ℕ) (s : State) (r x : ℕ) (n₁ : eqb 1 x ≡ false) (n₂ : eqb 2 x ≡ false) (n₃ : eqb 3 x ≡ false) where
-  going : (fits : Bool) → (fits ≡ true → Active n s) → entry d n fits r ≡ x → Going n s
+  going : (fits : Bool) → (fits ≡ true → Active n s) → firstNeeds d n fits r ≡ x → Going n s
   going fits f e =
       let i = entered d n fits r x n₁ n₂ n₃ e in
       let a = f (entered-fits d n fits r x n₁ n₂ n₃ e) in
       record { low = i .low; high = i .high; own = a .own; short = a .short; within = a .within }
 
-  pub going-send : entry d n (activeSend n s) r ≡ x → Going n s
+  pub going-send : firstNeeds d n (activeSend n s) r ≡ x → Going n s
   going-send = going (activeSend n s) (send-active n s)
 
-  pub going-receive : entry d n (activeReceive n s) r ≡ x → Going n s
+  pub going-receive : firstNeeds d n (activeReceive n s) r ≡ x → Going n s
   going-receive = going (activeReceive n s) (receive-active n s)
 
 -- and its own test holds where it is accepted
-pub going-test : (d n : ℕ) (fits test : Bool) → entry d n fits (need test 12 0) ≡ 0 → test ≡ true
+pub going-test : (d n : ℕ) (fits test : Bool) → firstNeeds d n fits (need test 12 0) ≡ 0 → test ≡ true
 going-test d n fits test e = passed test 12 0 0 refl (entered-rest d n fits (need test 12 0) 0 refl refl refl e)
 
 -- the place of its next dword, and the offset past its message

@@ -10,19 +10,20 @@ use lib.Seq.{set-at, append-snoc, take-at}
 use lib.Dec.{eqb, leb, ltb}
 use borrow.Author.Tests.{eqb-true, le-leb, lt-ltb}
 use Rattle.message.specs.Header.{totalLength, wellFormed}
-use Rattle.ring.specs.AtOnce.{AtOnce, ended, receive, receiveBy, receiveNumber}
-use Rattle.ring.specs.Numbers.{entry, foundWith, marked, need, receiveDecision, takeNumber}
+use Rattle.ring.specs.AtOnce.{AtOnce, wholeEnd, wholeReceive, receiveBy, receiveNumber}
+use Rattle.ring.specs.Numbers.{firstNeeds, headerNumber, marked, need, receiveDecision, takeDecision}
 use Rattle.channel.specs.Outcome.{Outcome}
 use Rattle.ring.specs.Ring.{allowed, head, status, tail}
 use Rattle.runs.specs.Buffer.{window}
 use Rattle.channel.specs.State.{State, activeReceive, header, idle, idleAt, second}
+use Rattle.channel.specs.Steps.{moves, moveAfter}
 use Rattle.channel.specs.Receive
-use Rattle.ring.specs.declared.sending.Ended.{Ended}
+use Rattle.ring.specs.declared.sending.WholeEnd.{WholeEnd}
 use Rattle.ring.proofs.Chains.{ok, tested}
 use Rattle.message.proofs.Tests.{cases}
 use Rattle.channel.proofs.Fits.{busy-active-receive, idle-same}
 use Rattle.runs.proofs.Ring.{window-append, window-at, window-length}
-use Rattle.ring.proofs.Taken.{found-accepted, found-not-13, total-high, total-low}
+use Rattle.ring.proofs.Taken.{look-accepted, look-not-13, total-high, total-low}
 
 -- the outcome of a whole receive, with the state s before it
 abbrev pub receiveOutcome : State → AtOnce → Outcome
@@ -73,13 +74,13 @@ module _ (s : State) (d b : List ℕ) where
         subst (λ (x : ℕ). activeReceive (length b) (record { n = x; own = s .own; len = l₀; moved = k; copy = taking k .copy }) ≡ true) (sym same)
         (busy-active-receive (length b) (s .own) below l₀ k (taking k .copy) (total-low h₀) (total-high h₀) l h (ap totalLength (sym (copied-header k l))))
 
-    entry-ok : (t : Bool) (r : ℕ) → t ≡ true → entry (length d) (length b) t r ≡ r
-    unfolding entry need
-    entry-ok t r e = rw (sixteen, is-allowed, e)
+    first-needs-ok : (t : Bool) (r : ℕ) → t ≡ true → firstNeeds (length d) (length b) t r ≡ r
+    unfolding firstNeeds need
+    first-needs-ok t r e = rw (sixteen, is-allowed, e)
 
     move-number : (k : ℕ) → 1 ≤ k → k < l₀ → Receive.moveNumber (taking k) d b ≡ 0
     unfolding Receive.moveNumber taking
-    move-number k l h = entry-ok _ _ (active k l (omega arith)) ∙ tested (ltb k l₀) 12 (lt-ltb k l₀ h)
+    move-number k l h = first-needs-ok _ _ (active k l (omega arith)) ∙ tested (ltb k l₀) 12 (lt-ltb k l₀ h)
 
     copy-more :
         (k : ℕ) → k < 256
@@ -98,15 +99,15 @@ module _ (s : State) (d b : List ℕ) where
     unfolding l₀
     below-256 k h = omega (arith, total-high h₀)
 
-    one-more : (k : ℕ) → 1 ≤ k → k < l₀ → Receive.moveAfter (midway k) ≡ midway (k + 1)
+    one-more : (k : ℕ) → 1 ≤ k → k < l₀ → moveAfter Receive.move (midway k) ≡ midway (k + 1)
     unfolding Receive.moveBy midway taking
     one-more k l h = rw (move-number k l h, copy-more k (below-256 k h))
 
-    all-moves : (j k : ℕ) → 1 ≤ k → k + j ≤ l₀ → Receive.moves j (midway k) ≡ midway (k + j)
-    unfolding Receive.moves
+    all-moves : (j k : ℕ) → 1 ≤ k → k + j ≤ l₀ → moves Receive.move j (midway k) ≡ midway (k + j)
+    unfolding moves
     all-moves zero k l h = ap midway (omega arith)
     all-moves (suc j) k l h =
-        ap (Receive.moves j) (one-more k l (omega arith)) ∙ all-moves j (k + 1) (omega arith) (omega arith) ∙ ap midway (omega arith)
+        ap (moves Receive.move j) (one-more k l (omega arith)) ∙ all-moves j (k + 1) (omega arith) (omega arith) ∙ ap midway (omega arith)
 
     module _ (o : List ℕ) (long : leb 256 (length o) ≡ true) where
       formed : Bool
@@ -122,7 +123,7 @@ module _ (s : State) (d b : List ℕ) where
       unfolding Receive.publishNumberOf taking
       publish-number =
           let l : 1 ≤ l₀ = unfold l₀ in total-low h₀ in
-          entry-ok _ _ (active l₀ l (omega arith)) ∙ ok 5 long ∙ ok 12 (le-leb l₀ l₀ (omega arith)) ∙ ap (λ (t : Bool). need t 13 0) copied-formed
+          first-needs-ok _ _ (active l₀ l (omega arith)) ∙ ok 5 long ∙ ok 12 (le-leb l₀ l₀ (omega arith)) ∙ ap (λ (t : Bool). need t 13 0) copied-formed
 
       publish-by : Receive.publishBy (need formed 13 0) (taking l₀) o d b ≡ receiveOutcome s (receiveBy (need formed 13 0) (s .own) o d b)
       unfolding Receive.publishBy receiveBy need taking l₀ h₀
@@ -142,33 +143,33 @@ module _ (s : State) (d b : List ℕ) where
           let z : s .own % length b ≡ s .own = mod-eq-of-lt below in
           rw z
 
-      after-look : Receive.rest o (midway 1) ≡ receiveOutcome s (receiveBy (need formed 13 0) (s .own) o d b)
-      unfolding Receive.rest midway taking
+      after-look : Receive.afterLook o (midway 1) ≡ receiveOutcome s (receiveBy (need formed 13 0) (s .own) o d b)
+      unfolding Receive.afterLook midway taking
       after-look =
           let l : 1 ≤ l₀ = unfold l₀ in total-low h₀ in
           let z : 1 + (l₀ - 1) ≡ l₀ = omega arith in
           ap (Receive.publishAfter o) (all-moves (l₀ - 1) 1 (omega arith) (omega arith) ∙ ap midway z) ∙ published
 
-      whole-accepted : Receive.rest o (Receive.lookBy 0 s d b) ≡ receiveOutcome s (receiveBy (need formed 13 0) (s .own) o d b)
-      whole-accepted = ap (Receive.rest o) looked ∙ after-look
+      whole-accepted : Receive.afterLook o (Receive.lookBy 0 s d b) ≡ receiveOutcome s (receiveBy (need formed 13 0) (s .own) o d b)
+      whole-accepted = ap (Receive.afterLook o) looked ∙ after-look
 
 -- a look that is refused
 look-refused :
     (s : State) (o d b : List ℕ) (c : ℕ) → eqb c 0 ≡ false → eqb c 13 ≡ false
-    → Receive.rest o (Receive.lookBy c s d b) ≡ receiveOutcome s (receiveBy (receiveNumber c (s .own) b) (s .own) o d b)
-unfolding Receive.rest Receive.lookBy receiveBy receiveNumber
+    → Receive.afterLook o (Receive.lookBy c s d b) ≡ receiveOutcome s (receiveBy (receiveNumber c (s .own) b) (s .own) o d b)
+unfolding Receive.afterLook Receive.lookBy receiveBy receiveNumber
 look-refused s o d b c z t = rw (z, z, t)
 
 module _ (s : State) (o d b : List ℕ) where
   -- what the descriptor and the header say, and the number of a whole receive but for 13
   f : ℕ
-  f = foundWith (s .own) d (length b) (getD b (s .own) 0)
+  f = headerNumber (s .own) d (length b) (getD b (s .own) 0)
 
   taken : ℕ
-  taken = takeNumber (idle (length b) s) (s .own) (length o) d (length b) (getD b (s .own) 0)
+  taken = takeDecision (idle (length b) s) (s .own) (length o) d (length b) (getD b (s .own) 0)
 
   Same : Type 0
-  Same = Receive.whole s o d b ≡ receiveOutcome s (receive (idle (length b) s) (s .own) o d b)
+  Same = Receive.whole s o d b ≡ receiveOutcome s (wholeReceive (idle (length b) s) (s .own) o d b)
 
   by-1-to-5 : (c : ℕ) → Receive.wholeNumber s o d b ≡ c → taken ≡ c → eqb c 0 ≡ false → eqb c 13 ≡ false → marked c d ≡ d → Same
   unfolding Same taken Receive.wholeBy receiveBy receiveNumber
@@ -176,19 +177,19 @@ module _ (s : State) (o d b : List ℕ) where
 
   by-look : Receive.wholeNumber s o d b ≡ 0 → taken ≡ f → Receive.lookNumber s d b ≡ f → eqb f 0 ≡ false → Same
   unfolding Same taken f Receive.wholeBy
-  by-look w k l z = rw (w, k, l) (look-refused s o d b f z (found-not-13 (length b) (s .own) (status d) (head d) (tail d) (getD b (s .own) 0)))
+  by-look w k l z = rw (w, k, l) (look-refused s o d b f z (look-not-13 (length b) (s .own) (status d) (head d) (tail d) (getD b (s .own) 0)))
 
   by-all :
       length d ≡ 16 → allowed (length b) ≡ true → idle (length b) s ≡ true → leb 256 (length o) ≡ true → Receive.wholeNumber s o d b ≡ 0
       → taken ≡ 0 → Receive.lookNumber s d b ≡ 0 → f ≡ 0 → Same
   unfolding Same taken f Receive.wholeBy receiveNumber formed l₀ h₀
   by-all t₁ t₂ t₃ t₄ w k l z =
-      let a = found-accepted (length b) (s .own) (status d) (head d) (tail d) (getD b (s .own) 0) z in
+      let a = look-accepted (length b) (s .own) (status d) (head d) (tail d) (getD b (s .own) 0) z in
       rw (w, k, l) (whole-accepted s d b t₁ t₂ (idle-same (length b) s t₃) (a .below) o t₄)
 
 -- 'A whole .. receive that 1 to 5 don't refuse equals its steps run one after another'
-pub receive-at-once : (s : State) (o d b : List ℕ) → Receive.whole s o d b ≡ receiveOutcome s (receive (idle (length b) s) (s .own) o d b)
-unfolding Same taken f Receive.wholeNumber receiveDecision takeNumber entry need marked
+pub receive-at-once : (s : State) (o d b : List ℕ) → Receive.whole s o d b ≡ receiveOutcome s (wholeReceive (idle (length b) s) (s .own) o d b)
+unfolding Same taken f Receive.wholeNumber receiveDecision takeDecision firstNeeds need marked
 receive-at-once s o d b =
     cases (eqb (length d) 16)
     (λ t₁. cases (allowed (length b))
@@ -206,7 +207,7 @@ receive-at-once s o d b =
 
 -- what the code of a whole receive at once says of the steps
 pub receive-method :
-    (s : State) (o d b : List ℕ) (fits : Bool) (r : Ended) (d′ o′ : List ℕ) → fits ≡ idle (length b) s → ended r d′ b o′ ≡ receive fits (s .own) o d b
-    → Receive.whole s o d b ≡ receiveOutcome s (ended r d′ b o′)
+    (s : State) (o d b : List ℕ) (fits : Bool) (r : WholeEnd) (d′ o′ : List ℕ) → fits ≡ idle (length b) s → wholeEnd r d′ b o′ ≡ wholeReceive fits (s .own) o d b
+    → Receive.whole s o d b ≡ receiveOutcome s (wholeEnd r d′ b o′)
 receive-method s o d b fits r d′ o′ f e =
-    receive-at-once s o d b ∙ ap (λ (t : Bool). receiveOutcome s (receive t (s .own) o d b)) (sym f) ∙ ap (receiveOutcome s) (sym e)
+    receive-at-once s o d b ∙ ap (λ (t : Bool). receiveOutcome s (wholeReceive t (s .own) o d b)) (sym f) ∙ ap (receiveOutcome s) (sym e)

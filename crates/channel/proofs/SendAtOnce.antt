@@ -10,14 +10,15 @@ use lib.Seq.{take-all}
 use lib.Dec.{eqb, leb, ltb}
 use borrow.Author.Tests.{eqb-true, eq-eqb, le-leb, lt-ltb}
 use Rattle.message.proofs.Formed.{message-formed, message-length, message-long, message-short}
-use Rattle.ring.specs.AtOnce.{AtOnce, ended, send, sendBy}
-use Rattle.ring.specs.Numbers.{entry, marked, need}
+use Rattle.ring.specs.AtOnce.{AtOnce, wholeEnd, wholeSend, sendBy}
+use Rattle.ring.specs.Numbers.{firstNeeds, marked, need}
 use Rattle.channel.specs.Outcome.{Outcome}
 use Rattle.ring.specs.Ring.{TAIL}
 use Rattle.runs.specs.Buffer.{stored}
 use Rattle.channel.specs.State.{State, activeSend, idle, idleAt}
+use Rattle.channel.specs.Steps.{moves, moveAfter}
 use Rattle.channel.specs.Send
-use Rattle.ring.specs.declared.sending.Ended.{Ended}
+use Rattle.ring.specs.declared.sending.WholeEnd.{WholeEnd}
 use Rattle.ring.proofs.Chains.{tested}
 use Rattle.message.proofs.Tests.{cases}
 use Rattle.channel.proofs.Fits.{idle-same}
@@ -53,28 +54,28 @@ module _ (s : State) (m d b : List ℕ) where
         rw (size k, same, e₀, e₁, eq-eqb (length b) (length b) refl, lt-ltb _ _ (a .below), le-leb _ _ (message-long m f), le-leb _ _ (message-short m f), le-leb _ _ h, eq-eqb _ _ (message-length m f))
         (message-formed m f)
 
-    entry-ok : (k : ℕ) (t : Bool) (r : ℕ) → t ≡ true → entry (length d) (length (midway k .buf)) t r ≡ r
-    unfolding entry need
-    entry-ok k t r e = rw (size k, a .enters .sixteen, a .enters .is-allowed, e)
+    first-needs-ok : (k : ℕ) (t : Bool) (r : ℕ) → t ≡ true → firstNeeds (length d) (length (midway k .buf)) t r ≡ r
+    unfolding firstNeeds need
+    first-needs-ok k t r e = rw (size k, a .enters .sixteen, a .enters .is-allowed, e)
 
     move-number : (k : ℕ) → k < length m → Send.moveNumber (sending k) d (midway k .buf) ≡ 0
     unfolding Send.moveNumber sending
-    move-number k h = entry-ok k _ _ (active k (omega arith)) ∙ tested (ltb k (length m)) 12 (lt-ltb k (length m) h)
+    move-number k h = first-needs-ok k _ _ (active k (omega arith)) ∙ tested (ltb k (length m)) 12 (lt-ltb k (length m) h)
 
-    one-more : (k : ℕ) → k < length m → Send.moveAfter (midway k) ≡ midway (k + 1)
+    one-more : (k : ℕ) → k < length m → moveAfter Send.move (midway k) ≡ midway (k + 1)
     unfolding Send.moveBy midway sending
     one-more k h =
         rw (move-number k h, size k, List·getD-append m (replicate (256 - length m) 0) 0 k h, stored-take b (length b) (s .own) m k h, ← add-one k)
 
-    all-moves : (j k : ℕ) → k + j ≤ length m → Send.moves j (midway k) ≡ midway (k + j)
-    unfolding Send.moves
+    all-moves : (j k : ℕ) → k + j ≤ length m → moves Send.move j (midway k) ≡ midway (k + j)
+    unfolding moves
     all-moves zero k h = ap midway (omega arith)
     all-moves (suc j) k h =
-        ap (Send.moves j) (one-more k (omega arith)) ∙ all-moves j (k + 1) (omega arith) ∙ ap midway (omega arith)
+        ap (moves Send.move j) (one-more k (omega arith)) ∙ all-moves j (k + 1) (omega arith) ∙ ap midway (omega arith)
 
     publish-number : Send.publishNumber (sending (length m)) d (midway (length m) .buf) ≡ 0
     unfolding Send.publishNumber sending
-    publish-number = entry-ok (length m) _ _ (active (length m) (omega arith)) ∙ tested (leb (length m) (length m)) 12 (le-leb (length m) (length m) (omega arith))
+    publish-number = first-needs-ok (length m) _ _ (active (length m) (omega arith)) ∙ tested (leb (length m) (length m)) 12 (le-leb (length m) (length m) (omega arith))
 
     published :
         Send.publishAfter (midway (length m))
@@ -89,18 +90,18 @@ module _ (s : State) (m d b : List ℕ) where
     unfolding Send.publishBy midway sending
     published = rw (publish-number, size (length m), take-all (length m) m (omega arith))
 
-    whole-accepted : Send.rest (length m) (Send.lookBy 0 s m d b) ≡ sendOutcome s (sendBy 0 (s .own) m d b)
-    unfolding Send.rest Send.lookBy sendBy midway sending stored marked
+    whole-accepted : Send.afterLook (length m) (Send.lookBy 0 s m d b) ≡ sendOutcome s (sendBy 0 (s .own) m d b)
+    unfolding Send.afterLook Send.lookBy sendBy midway sending stored marked
     whole-accepted =
         let z : 0 + length m ≡ length m = omega arith in
         ap Send.publishAfter (all-moves (length m) 0 (omega arith) ∙ ap midway z) ∙ published
 
-whole-refused : (s : State) (m d b : List ℕ) (c : ℕ) → eqb c 0 ≡ false → Send.rest (length m) (Send.lookBy c s m d b) ≡ sendOutcome s (sendBy c (s .own) m d b)
-unfolding Send.rest Send.lookBy sendBy
+whole-refused : (s : State) (m d b : List ℕ) (c : ℕ) → eqb c 0 ≡ false → Send.afterLook (length m) (Send.lookBy c s m d b) ≡ sendOutcome s (sendBy c (s .own) m d b)
+unfolding Send.afterLook Send.lookBy sendBy
 whole-refused s m d b c t = rw t
 
 -- 'A whole send .. equals its steps run one after another'
-pub send-at-once : (s : State) (m d b : List ℕ) → Send.whole s m d b ≡ sendOutcome s (send (idle (length b) s) (s .own) m d b)
+pub send-at-once : (s : State) (m d b : List ℕ) → Send.whole s m d b ≡ sendOutcome s (wholeSend (idle (length b) s) (s .own) m d b)
 send-at-once s m d b =
     cases (eqb (Send.lookNumber s m d b) 0)
     (λ t.
@@ -111,10 +112,10 @@ send-at-once s m d b =
 
 -- what the code of a whole send at once says of the steps
 pub send-method :
-    (s : State) (m d b : List ℕ) (fits : Bool) (r : Ended) (d′ b′ : List ℕ) → fits ≡ idle (length b) s → ended r d′ b′ [] ≡ send fits (s .own) m d b
+    (s : State) (m d b : List ℕ) (fits : Bool) (r : WholeEnd) (d′ b′ : List ℕ) → fits ≡ idle (length b) s → wholeEnd r d′ b′ [] ≡ wholeSend fits (s .own) m d b
     → Send.whole s m d b
     ≡ record { code = r .code; len = 0; next = cond (eqb (r .code) 0) (idleAt (s .n) (r .own)) s; desc = d′; buf = b′; out = [] }
 unfolding sendBy
 send-method s m d b fits r d′ b′ f e =
     let z : r .len ≡ 0 = ap (λ (x : AtOnce). x .len) e in
-    send-at-once s m d b ∙ ap (λ (t : Bool). sendOutcome s (send t (s .own) m d b)) (sym f) ∙ ap (sendOutcome s) (sym e) ∙ rw z
+    send-at-once s m d b ∙ ap (λ (t : Bool). sendOutcome s (wholeSend t (s .own) m d b)) (sym f) ∙ ap (sendOutcome s) (sym e) ∙ rw z

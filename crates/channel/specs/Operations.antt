@@ -18,6 +18,21 @@ pub data Op : Type 0 where
   receivePublish : List ℕ → Op
   receiveWhole : List ℕ → Op
 
+-- the two sides, and whose an operation is
+pub data Side : Type 0 where
+  theSender : Side
+  theReceiver : Side
+
+abbrev pub sideOf : Op → Side
+sideOf (sendLook m) = theSender
+sideOf sendMove = theSender
+sideOf sendPublish = theSender
+sideOf (sendWhole m) = theSender
+sideOf receiveLook = theReceiver
+sideOf receiveMove = theReceiver
+sideOf (receivePublish o) = theReceiver
+sideOf (receiveWhole o) = theReceiver
+
 -- what an operation gives on its side's state, a descriptor and a buffer, by the definitions that the contracts cite
 abbrev pub gives : Op → State → List ℕ → List ℕ → Outcome
 gives (sendLook m) s d b = Send.look s m d b

@@ -3,7 +3,7 @@ use Prim.Native.Nat.{ℕ}
 use mathlib.Core.List.{List, []}
 use Rattle.channel.specs.State.{State, ofSender, ofReceiver}
 use Rattle.channel.specs.declared.sending.Sent.{Sent}
-use Rattle.channel.specs.declared.receiving.Looked.{Looked}
+use Rattle.channel.specs.declared.receiving.Stepped.{Stepped}
 use Rattle.channel.specs.declared.receiving.Received.{Received}
 
 -- the number, L (0 where the answer has none), the next state, the descriptor, the buffer and the output (no dword where none is
@@ -20,8 +20,8 @@ pub record Outcome : Type 0 where
 abbrev pub sent : Sent → List ℕ → List ℕ → Outcome
 sent r d b = record { code = r .code; len = 0; next = ofSender (r .next); desc = d; buf = b; out = [] }
 
-abbrev pub looked : Looked → List ℕ → List ℕ → Outcome
-looked r d b = record { code = r .code; len = 0; next = ofReceiver (r .next); desc = d; buf = b; out = [] }
+abbrev pub stepped : Stepped → List ℕ → List ℕ → Outcome
+stepped r d b = record { code = r .code; len = 0; next = ofReceiver (r .next); desc = d; buf = b; out = [] }
 
 abbrev pub received : Received → List ℕ → List ℕ → List ℕ → Outcome
 received r d b o = record { code = r .code; len = r .len; next = ofReceiver (r .next); desc = d; buf = b; out = o }

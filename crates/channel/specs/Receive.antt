@@ -1,5 +1,5 @@
 -- The steps of a receive and a whole receive (document 01, 'Steps of a send and a receive'): the number first, then the effect by it.
-use Prim.Native.Nat.{ℕ, zero, suc, _+_, _-_, _%_}
+use Prim.Native.Nat.{ℕ, _+_, _-_}
 use mathlib.Core.Bool.{_||_, cond}
 use mathlib.Core.List.{List, [], _∷_, _++_}
 use lib.ListN.{length, getD, take, drop, set, replicate}
@@ -7,8 +7,9 @@ use lib.Dec.{eqb, leb, ltb}
 use Rattle.message.specs.Header.{totalLength, wellFormed}
 use Rattle.ring.specs.Ring.{HEAD}
 use Rattle.channel.specs.State.{State, idleAt, idle, activeReceive, header, second}
-use Rattle.ring.specs.Numbers.{need, entry, receiveDecision, marked}
+use Rattle.ring.specs.Numbers.{need, firstNeeds, receiveDecision, marked}
 use Rattle.channel.specs.Outcome.{Outcome, refused}
+use Rattle.channel.specs.Steps.{nextPlace, pastMessage, moves}
 
 -- 'look (read STATUS, HEAD, TAIL and, if not empty, the header, ..)': 1, 2 and 3, then what the descriptor and the header at the own head say
 abbrev pub lookNumber : State → List ℕ → List ℕ → ℕ
@@ -27,20 +28,17 @@ look s d b = lookBy (lookNumber s d b) s d b
 
 -- 'copy the others one a step': 12 'a move after L'
 unfoldable pub moveNumber : State → List ℕ → List ℕ → ℕ
-moveNumber s d b = entry (length d) (length b) (activeReceive (length b) s) (need (ltb (s .moved) (s .len)) 12 0)
+moveNumber s d b = firstNeeds (length d) (length b) (activeReceive (length b) s) (need (ltb (s .moved) (s .len)) 12 0)
 
--- where the next dword lies
-abbrev pub place : State → List ℕ → ℕ
-place s b = (s .own + s .moved) % length b
-
-abbrev pub moved : State → ℕ → State
-moved s dword =
+-- the state with one dword more moved, into its copy
+abbrev pub afterMove : State → ℕ → State
+afterMove s dword =
     record { n = s .n; own = s .own; len = s .len; moved = s .moved + 1; copy = set (s .copy) (s .moved) dword }
 
 unfoldable pub moveBy : ℕ → State → List ℕ → List ℕ → Outcome
 moveBy c s d b =
     cond (eqb c 0)
-    (record { code = 0; len = 0; next = moved s (getD b (place s b) 0); desc = d; buf = b; out = [] })
+    (record { code = 0; len = 0; next = afterMove s (getD b (nextPlace s b) 0); desc = d; buf = b; out = [] })
     (refused c s d b [])
 
 abbrev pub move : State → List ℕ → List ℕ → Outcome
@@ -51,15 +49,11 @@ move s d b = moveBy (moveNumber s d b) s d b
 -- with the lengths of the output, the descriptor and the buffer
 unfoldable pub publishNumberOf : State → ℕ → ℕ → ℕ → ℕ
 publishNumberOf s output descriptor n =
-    entry descriptor n (activeReceive n s)
+    firstNeeds descriptor n (activeReceive n s)
     (need (leb 256 output) 5 (need (leb (s .len) (s .moved)) 12 (need (wellFormed (header s) (second s)) 13 0)))
 
 abbrev pub publishNumber : State → List ℕ → List ℕ → List ℕ → ℕ
 publishNumber s o d b = publishNumberOf s (length o) (length d) (length b)
-
--- the offset past the message
-abbrev pub past : State → List ℕ → ℕ
-past s b = (s .own + s .len) % length b
 
 -- 'lay the L dwords at the front of the output, the rest of it unchanged. .. Malformed: HEAD moves all the same, the output stays, the
 -- answer is 13.'
@@ -69,8 +63,8 @@ publishBy c s o d b =
     (record {
       code = c;
       len = cond (eqb c 0) (s .len) 0;
-      next = idleAt (s .n) (past s b);
-      desc = set d HEAD (past s b);
+      next = idleAt (s .n) (pastMessage s b);
+      desc = set d HEAD (pastMessage s b);
       buf = b;
       out = cond (eqb c 0) (take (s .len) (s .copy) ++ drop (s .len) o) o;
     })
@@ -79,32 +73,25 @@ publishBy c s o d b =
 abbrev pub publish : State → List ℕ → List ℕ → List ℕ → Outcome
 publish s o d b = publishBy (publishNumber s o d b) s o d b
 
--- one step after another: on the state and the memory that the one before left
-abbrev pub moveAfter : Outcome → Outcome
-moveAfter x = move (x .next) (x .desc) (x .buf)
-
+-- a publish after another step: on the state and the memory that it left
 abbrev pub publishAfter : List ℕ → Outcome → Outcome
 publishAfter o x = publish (x .next) o (x .desc) (x .buf)
-
-unfoldable pub moves : ℕ → Outcome → Outcome
-moves zero x = x
-moves (suc k) x = moves k (moveAfter x)
 
 -- an outcome with the output that is lent beside it
 abbrev pub beside : List ℕ → Outcome → Outcome
 beside o x = record { code = x .code; len = x .len; next = x .next; desc = x .desc; buf = x .buf; out = o }
 
 -- after the look, which moved the header: L - 1 moves and the publish
-unfoldable pub rest : List ℕ → Outcome → Outcome
-rest o x = cond (eqb (x .code) 0) (publishAfter o (moves (x .next .len - 1) x)) (beside o x)
+unfoldable pub afterLook : List ℕ → Outcome → Outcome
+afterLook o x = cond (eqb (x .code) 0) (publishAfter o (moves move (x .next .len - 1) x)) (beside o x)
 
 -- the numbers 1 to 5 of a whole receive
 unfoldable pub wholeNumber : State → List ℕ → List ℕ → List ℕ → ℕ
-wholeNumber s o d b = entry (length d) (length b) (idle (length b) s) (need (leb 256 (length o)) 5 0)
+wholeNumber s o d b = firstNeeds (length d) (length b) (idle (length b) s) (need (leb 256 (length o)) 5 0)
 
 -- 'A whole .. receive that 1 to 5 don't refuse equals its steps run one after another on the lent memory.'
 unfoldable pub wholeBy : ℕ → State → List ℕ → List ℕ → List ℕ → Outcome
-wholeBy c s o d b = cond (eqb c 0) (rest o (look s d b)) (refused c s d b o)
+wholeBy c s o d b = cond (eqb c 0) (afterLook o (look s d b)) (refused c s d b o)
 
 abbrev pub whole : State → List ℕ → List ℕ → List ℕ → Outcome
 whole s o d b = wholeBy (wholeNumber s o d b) s o d b

@@ -1,14 +1,15 @@
 -- The steps of a send and a whole send (document 01, 'Steps of a send and a receive'): the number first, then the effect by it.
 -- Document 01's terms for the steps are look, move and publish.
-use Prim.Native.Nat.{ℕ, zero, suc, _+_, _-_, _%_}
+use Prim.Native.Nat.{ℕ, _+_, _-_}
 use mathlib.Core.Bool.{cond}
 use mathlib.Core.List.{List, [], _++_}
 use lib.ListN.{length, getD, set, replicate}
 use lib.Dec.{eqb, leb, ltb}
 use Rattle.ring.specs.Ring.{TAIL}
 use Rattle.channel.specs.State.{State, idleAt, idle, activeSend}
-use Rattle.ring.specs.Numbers.{need, entry, marked, numberAt}
+use Rattle.ring.specs.Numbers.{need, firstNeeds, marked, numberAt}
 use Rattle.channel.specs.Outcome.{Outcome, refused}
+use Rattle.channel.specs.Steps.{nextPlace, pastMessage, moves}
 
 -- 'look (judge the message, read STATUS, HEAD, TAIL)': 1 to 4, then what the descriptor says
 abbrev pub lookNumber : State → List ℕ → List ℕ → List ℕ → ℕ
@@ -28,19 +29,16 @@ look s m d b = lookBy (lookNumber s m d b) s m d b
 
 -- 'store dword k at (own tail + k) mod N, one a step': 12 'a move after L'
 unfoldable pub moveNumber : State → List ℕ → List ℕ → ℕ
-moveNumber s d b = entry (length d) (length b) (activeSend (length b) s) (need (ltb (s .moved) (s .len)) 12 0)
+moveNumber s d b = firstNeeds (length d) (length b) (activeSend (length b) s) (need (ltb (s .moved) (s .len)) 12 0)
 
--- where the next dword goes
-abbrev pub place : State → List ℕ → ℕ
-place s b = (s .own + s .moved) % length b
-
-abbrev pub moved : State → State
-moved s = record { n = s .n; own = s .own; len = s .len; moved = s .moved + 1; copy = s .copy }
+-- the state with one dword more moved
+abbrev pub afterMove : State → State
+afterMove s = record { n = s .n; own = s .own; len = s .len; moved = s .moved + 1; copy = s .copy }
 
 unfoldable pub moveBy : ℕ → State → List ℕ → List ℕ → Outcome
 moveBy c s d b =
     cond (eqb c 0)
-    (record { code = 0; len = 0; next = moved s; desc = d; buf = set b (place s b) (getD (s .copy) (s .moved) 0); out = [] })
+    (record { code = 0; len = 0; next = afterMove s; desc = d; buf = set b (nextPlace s b) (getD (s .copy) (s .moved) 0); out = [] })
     (refused c s d b [])
 
 abbrev pub move : State → List ℕ → List ℕ → Outcome
@@ -48,37 +46,26 @@ move s d b = moveBy (moveNumber s d b) s d b
 
 -- 'publish TAIL = (own tail + L) mod N': 12 'publish before L dwords moved'
 unfoldable pub publishNumber : State → List ℕ → List ℕ → ℕ
-publishNumber s d b = entry (length d) (length b) (activeSend (length b) s) (need (leb (s .len) (s .moved)) 12 0)
-
--- the offset past the message
-abbrev pub past : State → List ℕ → ℕ
-past s b = (s .own + s .len) % length b
+publishNumber s d b = firstNeeds (length d) (length b) (activeSend (length b) s) (need (leb (s .len) (s .moved)) 12 0)
 
 -- 'After publish the state is idle with the new own offset, and its copy is all zeros.'
 unfoldable pub publishBy : ℕ → State → List ℕ → List ℕ → Outcome
 publishBy c s d b =
     cond (eqb c 0)
-    (record { code = 0; len = 0; next = idleAt (s .n) (past s b); desc = set d TAIL (past s b); buf = b; out = [] })
+    (record { code = 0; len = 0; next = idleAt (s .n) (pastMessage s b); desc = set d TAIL (pastMessage s b); buf = b; out = [] })
     (refused c s d b [])
 
 abbrev pub publish : State → List ℕ → List ℕ → Outcome
 publish s d b = publishBy (publishNumber s d b) s d b
 
--- one step after another: on the state and the memory that the one before left
-abbrev pub moveAfter : Outcome → Outcome
-moveAfter x = move (x .next) (x .desc) (x .buf)
-
+-- a publish after another step: on the state and the memory that it left
 abbrev pub publishAfter : Outcome → Outcome
 publishAfter x = publish (x .next) (x .desc) (x .buf)
 
-unfoldable pub moves : ℕ → Outcome → Outcome
-moves zero x = x
-moves (suc k) x = moves k (moveAfter x)
-
 -- 'A whole send .. that 1 to 5 don't refuse equals its steps run one after another on the lent memory.' 1 to 4 are its look's; where the look
--- refuses, no step follows it.
-unfoldable pub rest : ℕ → Outcome → Outcome
-rest l x = cond (eqb (x .code) 0) (publishAfter (moves l x)) x
+-- refuses, no step follows it, else l moves and the publish do.
+unfoldable pub afterLook : ℕ → Outcome → Outcome
+afterLook l x = cond (eqb (x .code) 0) (publishAfter (moves move l x)) x
 
 abbrev pub whole : State → List ℕ → List ℕ → List ℕ → Outcome
-whole s m d b = rest (length m) (look s m d b)
+whole s m d b = afterLook (length m) (look s m d b)

@@ -5,7 +5,7 @@ ghost use Rattle.channel.specs.Opening.{opened, opening, openNumber};
 use crate::receiving::Receiver;
 use crate::sending::Sender;
 use ring::allowed;
-use ring::refuse;
+use ring::need;
 
 // What opening answers.
 pub struct Opened {
@@ -18,7 +18,7 @@ pub struct Opened {
 pub fn open_number(descriptor: usize, n: usize) -> u32
     ensures { λ r. ⌜ r ≡ openNumber descriptor n ⌝ }
 {
-    refuse(descriptor == 16, 1, refuse(allowed(n), 2, 0))
+    need(descriptor == 16, 1, need(allowed(n), 2, 0))
 }
 
 // Makes the words all zeros.

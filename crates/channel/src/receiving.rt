@@ -4,8 +4,8 @@ ghost use mathlib.Core.List.{List};
 ghost use Prim.Native.Nat.{ℕ};
 ghost use lib.ListN.{length};
 ghost use Rattle.channel.specs.State.{ofReceiver, countsOf, idleAt, idle, activeReceive};
-ghost use Rattle.ring.specs.Numbers.{entry};
-ghost use Rattle.channel.specs.Outcome.{looked, received};
+ghost use Rattle.ring.specs.Numbers.{firstNeeds};
+ghost use Rattle.channel.specs.Outcome.{stepped, received};
 ghost use Rattle.channel.specs.Receive;
 use crate::state::Counts;
 use crate::state::fits_idle;
@@ -13,7 +13,7 @@ use crate::state::no_copy;
 use crate::state::publish_number;
 use crate::state::receiving_number;
 use message::dword_at;
-use ring::refuse;
+use ring::need;
 use runs::past;
 
 // A receiver's state: made for a buffer of n dwords, with its own head. Mid-call it has a copy of the dwords that it has moved out of the buffer, of a
@@ -27,7 +27,7 @@ pub struct Receiver {
 }
 
 // What a receive's look and copy answer.
-pub struct Looked {
+pub struct Stepped {
     pub code: u32,
     pub next: Receiver,
 }
@@ -75,30 +75,30 @@ impl Receiver {
 
     // The number of a step that goes on.
     fn go_on_number(self, descriptor: usize, n: usize, rest: u32) -> u32
-        ensures { λ r. ⌜ r ≡ entry descriptor n (activeReceive n (ofReceiver self)) rest ⌝ }
+        ensures { λ r. ⌜ r ≡ firstNeeds descriptor n (activeReceive n (ofReceiver self)) rest ⌝ }
     {
         let copy = self.copy;
         receiving_number(self.counts(), copy[0], descriptor, n, rest)
     }
 
     // Judges the descriptor and the header, and takes a copy of the header.
-    pub fn look(self, desc: &mut [u32], buf: &[u32]) -> Looked
-        ensures { λ r. ⌜ looked r (now (desc .exit)) (now (buf .entry)) ≡ Receive.look (ofReceiver self) (now (desc .entry)) (now (buf .entry)) ⌝ }
+    pub fn look(self, desc: &mut [u32], buf: &[u32]) -> Stepped
+        ensures { λ r. ⌜ stepped r (now (desc .exit)) (now (buf .entry)) ≡ Receive.look (ofReceiver self) (now (desc .entry)) (now (buf .entry)) ⌝ }
     {
         let n = buf.len();
-        let seen = ring::look_header(self.is_idle(n), self.own, &desc[..], buf);
-        let code = seen.code;
+        let judged = ring::receive_decision(self.is_idle(n), self.own, &desc[..], buf);
+        let code = judged.code;
         if code != 0 {
             ring::mark(desc, code);
-            return Looked {
+            return Stepped {
                 code: code,
                 next: self,
             };
         }
-        let header = seen.header;
+        let header = judged.header;
         let mut copy = no_copy();
         copy[0] = header;
-        Looked {
+        Stepped {
             code: 0,
             next: Receiver {
                 n: self.n,
@@ -111,14 +111,14 @@ impl Receiver {
     }
 
     // Copies the next dword of the message.
-    pub fn copy(self, desc: &[u32], buf: &[u32]) -> Looked
-        ensures { λ r. ⌜ looked r (now (desc .entry)) (now (buf .entry)) ≡ Receive.move (ofReceiver self) (now (desc .entry)) (now (buf .entry)) ⌝ }
+    pub fn copy(self, desc: &[u32], buf: &[u32]) -> Stepped
+        ensures { λ r. ⌜ stepped r (now (desc .entry)) (now (buf .entry)) ≡ Receive.move (ofReceiver self) (now (desc .entry)) (now (buf .entry)) ⌝ }
     {
         let n = buf.len();
         let moved = self.moved;
-        let code = self.go_on_number(desc.len(), n, refuse(moved < self.len, 12, 0));
+        let code = self.go_on_number(desc.len(), n, need(moved < self.len, 12, 0));
         if code != 0 {
-            return Looked {
+            return Stepped {
                 code: code,
                 next: self,
             };
@@ -127,7 +127,7 @@ impl Receiver {
         let mut next = self;
         next.copy[moved] = dword;
         next.moved = moved + 1;
-        Looked {
+        Stepped {
             code: 0,
             next: next,
         }

@@ -5,7 +5,7 @@ ghost use Prim.Native.Nat.{ℕ};
 ghost use lib.ListN.{length};
 ghost use Rattle.runs.specs.Buffer.{laid};
 ghost use Rattle.channel.specs.State.{ofSender, countsOf, zeros, idleAt, idle, activeSend};
-ghost use Rattle.ring.specs.Numbers.{need, entry};
+ghost use Rattle.ring.specs.Numbers.{need, firstNeeds};
 ghost use Rattle.channel.specs.Outcome.{sent};
 ghost use Rattle.channel.specs.Send;
 use crate::state::Counts;
@@ -32,7 +32,7 @@ pub struct Sent {
 }
 
 // A copy of a message that is looked at, with zeros in its other places.
-fn loaded(header: u32, word: u32, rest: &[u32]) -> [u32; 256]
+fn message_copy(header: u32, word: u32, rest: &[u32]) -> [u32; 256]
     ensures { λ r. ⌜ r ≡ laid (header ∷ word ∷ now (rest .entry)) zeros ⌝ }
 {
     let mut copy = no_copy();
@@ -76,7 +76,7 @@ impl Sender {
 
     // The number of a step that goes on.
     fn go_on_number(self, descriptor: usize, n: usize, test: bool) -> u32
-        ensures { λ r. ⌜ r ≡ entry descriptor n (activeSend n (ofSender self)) (need test 12 0) ⌝ }
+        ensures { λ r. ⌜ r ≡ firstNeeds descriptor n (activeSend n (ofSender self)) (need test 12 0) ⌝ }
     {
         let copy = self.copy;
         sending_number(self.counts(), copy[0], copy[1], descriptor, n, test)
@@ -91,7 +91,7 @@ impl Sender {
         let len = msg.len();
         let header = dword_at(msg, 0);
         let word = dword_at(msg, 1);
-        let code = ring::look_number(self.is_idle(n), self.own, &desc[..], n, len, header, word);
+        let code = ring::send_decision(self.is_idle(n), self.own, &desc[..], n, len, header, word);
         if code != 0 {
             ring::mark(desc, code);
             return Sent {
@@ -99,7 +99,7 @@ impl Sender {
                 next: self,
             };
         }
-        let copy = loaded(header, word, &msg[2..]);
+        let copy = message_copy(header, word, &msg[2..]);
         Sent {
             code: 0,
             next: Sender {

@@ -3,10 +3,10 @@
 ghost use mathlib.Core.Path.{_≡_};
 ghost use mathlib.Core.List.{[], _∷_};
 ghost use Rattle.channel.specs.State.{counted, zeros, allZero, idle, activeSend, activeReceive};
-ghost use Rattle.ring.specs.Numbers.{need, entry};
+ghost use Rattle.ring.specs.Numbers.{need, firstNeeds};
 ghost use Rattle.channel.specs.Receive.{publishNumberOf};
-use ring::entry;
-use ring::refuse;
+use ring::first_needs;
+use ring::need;
 
 // The numbers of a state, beside its copy.
 pub struct Counts {
@@ -78,21 +78,21 @@ pub fn sending_number(
     n: usize,
     test: bool,
 ) -> u32
-    ensures { λ r. ⌜ r ≡ entry descriptor n (activeSend n (counted s (header ∷ word ∷ []))) (need test 12 0) ⌝ }
+    ensures { λ r. ⌜ r ≡ firstNeeds descriptor n (activeSend n (counted s (header ∷ word ∷ []))) (need test 12 0) ⌝ }
 {
-    entry(
+    first_needs(
         descriptor,
         n,
         fits_sending(n, s, header, word),
-        refuse(test, 12, 0),
+        need(test, 12, 0),
     )
 }
 
 // The number of a step that goes on with a receive: 1, 2, 3, then the rest.
 pub fn receiving_number(s: Counts, header: u32, descriptor: usize, n: usize, rest: u32) -> u32
-    ensures { λ r. ⌜ r ≡ entry descriptor n (activeReceive n (counted s (header ∷ []))) rest ⌝ }
+    ensures { λ r. ⌜ r ≡ firstNeeds descriptor n (activeReceive n (counted s (header ∷ []))) rest ⌝ }
 {
-    entry(descriptor, n, fits_receiving(n, s, header), rest)
+    first_needs(descriptor, n, fits_receiving(n, s, header), rest)
 }
 
 // The number of a receive's publish: 5, 12, then 13, by the first two dwords of the copy.
@@ -107,6 +107,6 @@ pub fn publish_number(
     ensures { λ r. ⌜ r ≡ publishNumberOf (counted s (header ∷ second ∷ [])) output descriptor n ⌝ }
 {
     let formed = message::well_formed(header, second);
-    let rest = refuse(s.len <= s.moved, 12, refuse(formed, 13, 0));
-    receiving_number(s, header, descriptor, n, refuse(256 <= output, 5, rest))
+    let rest = need(s.len <= s.moved, 12, need(formed, 13, 0));
+    receiving_number(s, header, descriptor, n, need(256 <= output, 5, rest))
 }

@@ -7,10 +7,10 @@ use crate::calls::receive_publish;
 use crate::calls::send;
 use crate::calls::send_look;
 use crate::dwords::put;
-use crate::words::dword;
-use crate::words::named;
-use crate::words::number;
-use crate::words::text;
+use crate::wording::dword;
+use crate::wording::named;
+use crate::wording::number;
+use crate::wording::text;
 use channel::Sender;
 use message::dword_at;
 

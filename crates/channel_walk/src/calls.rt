@@ -6,19 +6,19 @@ use crate::dwords::request;
 use crate::dwords::same;
 use crate::dwords::untouched;
 use crate::dwords::whole;
-use crate::words::descriptor;
-use crate::words::dword;
-use crate::words::named;
-use crate::words::number;
-use crate::words::state;
-use crate::words::text;
-use crate::words::told;
-use crate::words::verdict;
-use channel::Looked;
+use crate::wording::descriptor;
+use crate::wording::dword;
+use crate::wording::named;
+use crate::wording::number;
+use crate::wording::state;
+use crate::wording::text;
+use crate::wording::told;
+use crate::wording::verdict;
 use channel::Received;
 use channel::Receiver;
 use channel::Sender;
 use channel::Sent;
+use channel::Stepped;
 use message::dword_at;
 
 // A command transport buffer (CTB): descriptor, ring, and the states of both sides.
@@ -89,9 +89,9 @@ pub(crate) fn after_receive(c: Ctb, r: Receiver, desc: [u32; 16]) -> Ctb {
 }
 
 // What a receive's look or copy answered, to the end of its line, and the channel as the call left it.
-pub(crate) fn after_look(c: Ctb, looked: Looked, desc: [u32; 16]) -> Ctb {
-    verdict(looked.code);
-    let r = looked.next;
+pub(crate) fn after_step(c: Ctb, stepped: Stepped, desc: [u32; 16]) -> Ctb {
+    verdict(stepped.code);
+    let r = stepped.next;
     after_receive(c, r, desc)
 }
 
@@ -210,9 +210,9 @@ pub(crate) fn receive_look(c: Ctb) -> Ctb {
     let r = c.receiver;
     let mut desc = c.desc;
     let buf = c.buf;
-    let looked = r.look(&mut desc, &buf);
+    let stepped = r.look(&mut desc, &buf);
     text(b"Receiver looks");
-    after_look(c, looked, desc)
+    after_step(c, stepped, desc)
 }
 
 // A receive's copy.
@@ -220,9 +220,9 @@ pub(crate) fn receive_copy(c: Ctb) -> Ctb {
     let r = c.receiver;
     let desc = c.desc;
     let buf = c.buf;
-    let looked = r.copy(&desc, &buf);
+    let stepped = r.copy(&desc, &buf);
     text(b"Receiver copies");
-    after_look(c, looked, desc)
+    after_step(c, stepped, desc)
 }
 
 // A receive's publish, where a request is due.

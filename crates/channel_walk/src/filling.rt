@@ -6,7 +6,7 @@ use crate::calls::send;
 use crate::calls::send_look;
 use crate::calls::send_publish;
 use crate::calls::send_store;
-use crate::words::text;
+use crate::wording::text;
 
 // Three messages of 256 dwords, one that is too long then, one that just fits; all four that went in come out.
 pub(crate) fn fresh_and_full() {

@@ -5,9 +5,9 @@ mod dwords;
 mod filling;
 mod steps;
 mod turned_away;
-mod words;
+mod wording;
 
-use words::text;
+use wording::text;
 
 // The scenes, each on channels of its own.
 fn main() {

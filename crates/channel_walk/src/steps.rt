@@ -12,7 +12,7 @@ use crate::turned_away::copy_over_1000;
 use crate::turned_away::publish_to_255;
 use crate::turned_away::send_malformed;
 use crate::turned_away::store_over_15;
-use crate::words::text;
+use crate::wording::text;
 
 // A send with the receiver looking on, then a receive while the next send runs.
 pub(crate) fn interleaved() {

@@ -1,15 +1,15 @@
 // Calls with a message, a descriptor, a ring or an output that no call takes.
 use crate::calls::Ctb;
-use crate::calls::after_look;
 use crate::calls::after_receive;
 use crate::calls::after_send;
+use crate::calls::after_step;
 use crate::calls::open;
 use crate::calls::send_dwords;
 use crate::dwords::request;
 use crate::dwords::whole;
-use crate::words::number;
-use crate::words::text;
-use crate::words::verdict;
+use crate::wording::number;
+use crate::wording::text;
+use crate::wording::verdict;
 
 // Opening and whole calls, each with one thing wrong.
 pub(crate) fn turned_away() {
@@ -78,9 +78,9 @@ pub(crate) fn copy_over_1000(c: Ctb) -> Ctb {
     let ring = [0u32; 1000];
     let r = c.receiver;
     let desc = c.desc;
-    let looked = r.copy(&desc, &ring);
+    let stepped = r.copy(&desc, &ring);
     number(b"Receiver copies with ring length ", ring.len());
-    after_look(c, looked, desc)
+    after_step(c, stepped, desc)
 }
 
 // A receive's publish to an output that is a dword short.

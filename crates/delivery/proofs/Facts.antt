@@ -19,7 +19,8 @@ use Rattle.runs.specs.Buffer.{stored}
 use Rattle.ring.proofs.Chains.{ok}
 use Rattle.message.proofs.Tests.{cases}
 use Rattle.runs.proofs.Ring.{apart, stored-other, stored-take}
-use Rattle.delivery.specs.Operations.{Op, plainAnswer, receiveLook, receiveMove, receivePublish, receiveWhole, sendLook, sendMove, sendPublish, sendWhole}
+use Rattle.channel.specs.Operations.{Op, receiveLook, receiveMove, receivePublish, receiveWhole, sendLook, sendMove, sendPublish, sendWhole}
+use Rattle.delivery.specs.Operations.{plainOutcome}
 use Rattle.delivery.specs.Plain.{Plain, Receiving, Sending, first, notReceiving, notSending, receiving, sending}
 use Rattle.delivery.specs.Plain
 use Rattle.delivery.proofs.Invariant.{Inv, bad, empty-receiving, n-low, plain}
@@ -164,7 +165,7 @@ module _ (n : ℕ) (b : List ℕ) (P R : ℕ) (s : Sending) where
 -- ---- every operation
 
 module _ (n : ℕ) (b : List ℕ) (P R : ℕ) where
-  facts-look : (q : List (List ℕ)) (r : Receiving) (m : List ℕ) (s : Sending) → Inv (plain n b q P R s r) → StepFacts (plain n b q P R s r) (sendLook m) (plainAnswer (plain n b q P R s r) (sendLook m))
+  facts-look : (q : List (List ℕ)) (r : Receiving) (m : List ℕ) (s : Sending) → Inv (plain n b q P R s r) → StepFacts (plain n b q P R s r) (sendLook m) (plainOutcome (plain n b q P R s r) (sendLook m))
   unfolding Plain.sendLookBy Plain.sendLookNumber need roomNumber
   facts-look q r m notSending g =
       cases (isMessage m)
@@ -174,7 +175,7 @@ module _ (n : ℕ) (b : List ℕ) (P R : ℕ) where
       (λ f. rw f (look-no n b q P R m r 4 (bad _ f) refl refl))
   facts-look q r m (sending k m₀) g = no-facts _ _ 3 [] (λ k. refl) refl (λ k. refl) (λ e k. refl)
 
-  facts-move : (q : List (List ℕ)) (r : Receiving) (s : Sending) → Inv (plain n b q P R s r) → StepFacts (plain n b q P R s r) sendMove (plainAnswer (plain n b q P R s r) sendMove)
+  facts-move : (q : List (List ℕ)) (r : Receiving) (s : Sending) → Inv (plain n b q P R s r) → StepFacts (plain n b q P R s r) sendMove (plainOutcome (plain n b q P R s r) sendMove)
   unfolding Plain.sendMoveBy Plain.sendMoveNumber need Plain.sendMoved
   facts-move q r notSending g = no-facts _ _ 3 [] (λ k. refl) refl (λ k. refl) (λ e k. refl)
   facts-move q r (sending k m) g =
@@ -184,7 +185,7 @@ module _ (n : ℕ) (b : List ℕ) (P R : ℕ) where
       let d : k ≢ length m = eqb-false k (length m) e in
       rw e (move-yes n b q P R k m r g (omega (arith, g .send .up-to))))
 
-  facts-pub : (q : List (List ℕ)) (r : Receiving) (s : Sending) → Inv (plain n b q P R s r) → StepFacts (plain n b q P R s r) sendPublish (plainAnswer (plain n b q P R s r) sendPublish)
+  facts-pub : (q : List (List ℕ)) (r : Receiving) (s : Sending) → Inv (plain n b q P R s r) → StepFacts (plain n b q P R s r) sendPublish (plainOutcome (plain n b q P R s r) sendPublish)
   unfolding Plain.sendPublishBy Plain.sendPublishNumber need Plain.sendPublished
   facts-pub q r notSending g = no-facts _ _ 3 [] (λ k. refl) refl (λ k. refl) (λ e k. refl)
   facts-pub q r (sending k m) g =
@@ -192,7 +193,7 @@ module _ (n : ℕ) (b : List ℕ) (P R : ℕ) where
       (λ e. rw e (pub-yes n b q P R k m r g (leb-true (length m) k e)))
       (λ e. rw e (no-facts _ _ 12 [] (λ k. refl) refl (λ k. refl) (λ e k. refl)))
 
-  facts-whole : (q : List (List ℕ)) (r : Receiving) (m : List ℕ) (s : Sending) → Inv (plain n b q P R s r) → StepFacts (plain n b q P R s r) (sendWhole m) (plainAnswer (plain n b q P R s r) (sendWhole m))
+  facts-whole : (q : List (List ℕ)) (r : Receiving) (m : List ℕ) (s : Sending) → Inv (plain n b q P R s r) → StepFacts (plain n b q P R s r) (sendWhole m) (plainOutcome (plain n b q P R s r) (sendWhole m))
   unfolding roomNumber
   facts-whole q r m notSending g =
       cases (isMessage m)
@@ -203,13 +204,13 @@ module _ (n : ℕ) (b : List ℕ) (P R : ℕ) where
   facts-whole q r m (sending k m₀) g = rw (send-whole-midcall n b q P R r m k m₀) (no-facts _ _ 3 [] (λ k. refl) refl (λ k. refl) (λ e k. refl))
 
   module _ (s : Sending) where
-    facts-r-look : (q : List (List ℕ)) (r : Receiving) → Inv (plain n b q P R s r) → StepFacts (plain n b q P R s r) receiveLook (plainAnswer (plain n b q P R s r) receiveLook)
+    facts-r-look : (q : List (List ℕ)) (r : Receiving) → Inv (plain n b q P R s r) → StepFacts (plain n b q P R s r) receiveLook (plainOutcome (plain n b q P R s r) receiveLook)
     unfolding Plain.receiveLookBy Plain.receiveLookNumber need
     facts-r-look [] notReceiving g = r-look-none n b P R s
     facts-r-look (m ∷ q) notReceiving g = r-look-yes n b P R s (m ∷ q) 1
     facts-r-look q (receiving k) g = no-facts _ _ 3 [] (λ k. refl) refl (λ k. refl) (λ e k. refl)
 
-    facts-r-move : (q : List (List ℕ)) (r : Receiving) → Inv (plain n b q P R s r) → StepFacts (plain n b q P R s r) receiveMove (plainAnswer (plain n b q P R s r) receiveMove)
+    facts-r-move : (q : List (List ℕ)) (r : Receiving) → Inv (plain n b q P R s r) → StepFacts (plain n b q P R s r) receiveMove (plainOutcome (plain n b q P R s r) receiveMove)
     unfolding Plain.receiveMoveBy Plain.receiveMoveNumber need
     facts-r-move q notReceiving g = no-facts _ _ 3 [] (λ k. refl) refl (λ k. refl) (λ e k. refl)
     facts-r-move q (receiving k) g =
@@ -217,7 +218,7 @@ module _ (n : ℕ) (b : List ℕ) (P R : ℕ) where
         (λ e. rw e (no-facts _ _ 12 [] (λ k. refl) refl (λ k. refl) (λ e k. refl)))
         (λ e. rw e (r-move-yes n b P R s q k))
 
-    facts-r-pub : (o : List ℕ) (q : List (List ℕ)) (r : Receiving) → Inv (plain n b q P R s r) → StepFacts (plain n b q P R s r) (receivePublish o) (plainAnswer (plain n b q P R s r) (receivePublish o))
+    facts-r-pub : (o : List ℕ) (q : List (List ℕ)) (r : Receiving) → Inv (plain n b q P R s r) → StepFacts (plain n b q P R s r) (receivePublish o) (plainOutcome (plain n b q P R s r) (receivePublish o))
     unfolding Plain.receivePublishBy Plain.receivePublishNumber need
     facts-r-pub o q notReceiving g = no-facts _ _ 3 o (λ k. refl) refl (λ k. refl) (λ e k. refl)
     facts-r-pub o [] (receiving k) g = empty-receiving k (g .receive)
@@ -228,7 +229,7 @@ module _ (n : ℕ) (b : List ℕ) (P R : ℕ) where
         (λ f. rw (e, f) (no-facts _ _ 12 o (λ k. refl) refl (λ k. refl) (λ e k. refl))))
         (λ e. rw e (no-facts _ _ 5 o (λ k. refl) refl (λ k. refl) (λ e k. refl)))
 
-    facts-r-whole : (o : List ℕ) (q : List (List ℕ)) (r : Receiving) → Inv (plain n b q P R s r) → StepFacts (plain n b q P R s r) (receiveWhole o) (plainAnswer (plain n b q P R s r) (receiveWhole o))
+    facts-r-whole : (o : List ℕ) (q : List (List ℕ)) (r : Receiving) → Inv (plain n b q P R s r) → StepFacts (plain n b q P R s r) (receiveWhole o) (plainOutcome (plain n b q P R s r) (receiveWhole o))
     facts-r-whole o [] notReceiving g =
         cases (leb 256 (length o))
         (λ e. rw (receive-whole-none n b P R s o e) (r-whole-none n b P R s o e))
@@ -240,7 +241,7 @@ module _ (n : ℕ) (b : List ℕ) (P R : ℕ) where
         (λ e. rw (receive-whole-short n b (m ∷ q) P R s o e) (r-whole-short n b P R s (m ∷ q) o e))
     facts-r-whole o q (receiving k) g = rw (receive-whole-midcall n b q P R s o k) (no-facts _ _ 3 o (λ k. refl) refl (λ k. refl) (λ e k. refl))
 
-pub facts : (p : Plain) → Inv p → (o : Op) → StepFacts p o (plainAnswer p o)
+pub facts : (p : Plain) → Inv p → (o : Op) → StepFacts p o (plainOutcome p o)
 facts p g (sendLook m) = facts-look (p .n) (p .buf) (p .P) (p .R) (p .queue) (p .receive) m (p .send) g
 facts p g sendMove = facts-move (p .n) (p .buf) (p .P) (p .R) (p .queue) (p .receive) (p .send) g
 facts p g sendPublish = facts-pub (p .n) (p .buf) (p .P) (p .R) (p .queue) (p .receive) (p .send) g

@@ -11,7 +11,7 @@ use lib.ListN.{length, take, replicate}
 use lib.Dec.{ltb, eqb}
 use Rattle.message.specs.Header.{isMessage}
 use Rattle.message.proofs.Formed.{message-long}
-use Rattle.ring.specs.Numbers.{entry, found, need}
+use Rattle.ring.specs.Numbers.{firstNeeds, lookNeeds, need}
 use Rattle.ring.specs.Ring.{allowed, head, status, tail, used}
 use Rattle.runs.specs.Buffer.{window}
 use Rattle.channel.specs.State.{State, idleAt}
@@ -114,22 +114,22 @@ module _ (p : Plain) (g : Inv p) where
   pub own-receive : p .R % p .n < p .n
   own-receive = mod-lt (p .R) (omega (arith, n-low))
 
-  pub entry-ok : (t : Bool) (r : ℕ) → entry (length (descriptor p)) (length (p .buf)) t r ≡ need t 3 r
-  unfolding descriptor entry need
-  entry-ok t r = rw (g .size, g .allowed-n)
+  pub first-needs-ok : (t : Bool) (r : ℕ) → firstNeeds (length (descriptor p)) (length (p .buf)) t r ≡ need t 3 r
+  unfolding descriptor firstNeeds need
+  first-needs-ok t r = rw (g .size, g .allowed-n)
 
   pub used-eq : used (length (p .buf)) (head (descriptor p)) (tail (descriptor p)) ≡ length (flat (p .queue))
   unfolding used descriptor
   used-eq = rw (g .size, g .count) (gap (p .n) (p .R) (length (flat (p .queue))) (g .room))
 
-  pub found-send :
+  pub look-needs-send :
       (r : ℕ)
-      → found (length (p .buf)) (p .P % p .n) (tail (descriptor p)) (status (descriptor p)) (head (descriptor p)) (tail (descriptor p)) r ≡ r
-  unfolding descriptor found need
-  found-send r = rw (g .size, lt-ltb _ _ own-receive, lt-ltb _ _ own-send, eq-eqb (p .P % p .n) (p .P % p .n) refl)
+      → lookNeeds (length (p .buf)) (p .P % p .n) (tail (descriptor p)) (status (descriptor p)) (head (descriptor p)) (tail (descriptor p)) r ≡ r
+  unfolding descriptor lookNeeds need
+  look-needs-send r = rw (g .size, lt-ltb _ _ own-receive, lt-ltb _ _ own-send, eq-eqb (p .P % p .n) (p .P % p .n) refl)
 
-  pub found-receive :
+  pub look-needs-receive :
       (r : ℕ)
-      → found (length (p .buf)) (p .R % p .n) (head (descriptor p)) (status (descriptor p)) (head (descriptor p)) (tail (descriptor p)) r ≡ r
-  unfolding descriptor found need
-  found-receive r = rw (g .size, lt-ltb _ _ own-receive, lt-ltb _ _ own-send, eq-eqb (p .R % p .n) (p .R % p .n) refl)
+      → lookNeeds (length (p .buf)) (p .R % p .n) (head (descriptor p)) (status (descriptor p)) (head (descriptor p)) (tail (descriptor p)) r ≡ r
+  unfolding descriptor lookNeeds need
+  look-needs-receive r = rw (g .size, lt-ltb _ _ own-receive, lt-ltb _ _ own-send, eq-eqb (p .R % p .n) (p .R % p .n) refl)

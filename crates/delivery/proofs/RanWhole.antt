@@ -5,8 +5,9 @@ use Prim.Native.Nat.{ℕ}
 use lib.ListN.{length, getD, take}
 use Rattle.runs.specs.Buffer.{stored}
 use Rattle.delivery.specs.Demand.{Call, Result, Unreleased, answers, endedBy, held, publishedBy, receivedBy, result, wholes}
-use Rattle.delivery.specs.Operations.{Op, plainAnswer, plainEnd, plainRun, plainSeen}
-use Rattle.delivery.specs.Plain.{Answer, Plain, Sending, notReceiving, notSending, sending}
+use Rattle.channel.specs.Operations.{Op}
+use Rattle.delivery.specs.Operations.{plainOutcome, plainEnd, plainRun, plainSeen}
+use Rattle.delivery.specs.Plain.{PlainOutcome, Plain, Sending, notReceiving, notSending, sending}
 use Rattle.delivery.proofs.Invariant.{plain}
 use Rattle.delivery.proofs.Wholes.{refusal}
 
@@ -28,32 +29,32 @@ serialOf p z = plain (p .n) z (p .queue) (p .P) (p .R) notSending notReceiving
 abbrev pub Lacks : Plain → List ℕ → Type 0
 Lacks p z = p .buf ≡ stored z (p .n) (p .P) (done (p .send))
 
-pub record RanWhole (p : Plain) (z : List ℕ) (x : Answer) (cs : List Call) : Type 0 where
+pub record RanWhole (p : Plain) (z : List ℕ) (x : PlainOutcome) (cs : List Call) : Type 0 where
   pub z′ : List ℕ
   pub lin : Lacks (x .next) z′
   pub to : plainEnd (serialOf p z) (wholes cs) ≡ serialOf (x .next) z′
   pub gave : map result (plainRun (serialOf p z) (wholes cs)) ≡ answers cs
 
-pub record StepFacts (p : Plain) (o : Op) (x : Answer) : Type 0 where
+pub record StepFacts (p : Plain) (o : Op) (x : PlainOutcome) : Type 0 where
   pub flow : (c : List ℕ) → HoldsMessage c (p .send) → p .queue ++ publishedBy c o (plainSeen x) ≡ receivedBy o (plainSeen x) ++ x .next .queue
   pub holds : (c : List ℕ) → HoldsMessage c (p .send) → HoldsMessage (held c o (plainSeen x)) (x .next .send)
   pub keeps : (j : ℕ) → Unreleased p j → getD (x .next .buf) j 0 ≡ getD (p .buf) j 0
   pub ran : (c : List ℕ) → HoldsMessage c (p .send) → (e : List ℕ) → length e ≡ 256 → (z : List ℕ) → Lacks p z → RanWhole p z x (endedBy e c o (plainSeen x))
 
 -- nothing ended, nothing changed for the calls run whole
-pub same-run : (p : Plain) (z : List ℕ) (x : Answer) → serialOf p z ≡ serialOf (x .next) z → Lacks (x .next) z → RanWhole p z x []
+pub same-run : (p : Plain) (z : List ℕ) (x : PlainOutcome) → serialOf p z ≡ serialOf (x .next) z → Lacks (x .next) z → RanWhole p z x []
 unfolding plainEnd plainRun
 same-run p z x e l = record { z′ = z; lin = l; to = e; gave = refl }
 
 -- one call ended: w, answered g
-pub one-run : (p : Plain) (z z′ : List ℕ) (x y : Answer) (w : Op) (g : Result) → plainAnswer (serialOf p z) w ≡ y → y .next ≡ serialOf (x .next) z′ → result (plainSeen y) ≡ g → Lacks (x .next) z′ → RanWhole p z x (record { op = w; answer = g } ∷ [])
+pub one-run : (p : Plain) (z z′ : List ℕ) (x y : PlainOutcome) (w : Op) (g : Result) → plainOutcome (serialOf p z) w ≡ y → y .next ≡ serialOf (x .next) z′ → result (plainSeen y) ≡ g → Lacks (x .next) z′ → RanWhole p z x (record { op = w; answer = g } ∷ [])
 unfolding plainEnd plainRun
 one-run p z z′ x y w g e f h l =
     record {
       z′ = z′;
       lin = l;
-      to = ap (λ (u : Answer). u .next) e ∙ f;
-      gave = ap (λ (u : Answer). result (plainSeen u) ∷ []) e ∙ ap (λ (u : Result). u ∷ []) h;
+      to = ap (λ (u : PlainOutcome). u .next) e ∙ f;
+      gave = ap (λ (u : PlainOutcome). result (plainSeen u) ∷ []) e ∙ ap (λ (u : Result). u ∷ []) h;
     }
 
 -- a refusal that ends no call

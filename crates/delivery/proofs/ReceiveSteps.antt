@@ -13,7 +13,7 @@ use lib.Seq.{take-suc, take-all, getD-take, length-take-le, set-at, append-snoc,
 use lib.Dec.{leb, eqb}
 use Rattle.message.specs.Header.{isMessage, totalLength, wellFormed}
 use Rattle.message.proofs.Formed.{message-formed, message-length, message-long, message-short}
-use Rattle.ring.specs.Numbers.{marked, need, receiveDecision, receiveFound}
+use Rattle.ring.specs.Numbers.{marked, need, receiveDecision, receiveLookNeeds}
 use Rattle.channel.specs.Outcome.{Outcome}
 use Rattle.runs.specs.Buffer.{window}
 use Rattle.channel.specs.State.{activeReceive, idle}
@@ -22,16 +22,16 @@ use Rattle.ring.proofs.Chains.{ok}
 use Rattle.message.proofs.Tests.{cases}
 use Rattle.channel.proofs.Fits.{busy-active-receive, busy-idle, idle-active-receive, idle-idle}
 use Rattle.runs.proofs.Ring.{window-append, window-at, window-length}
-use Rattle.delivery.specs.Plain.{Answer, Plain, Receiving, Sending, descriptor, first, notReceiving, notSending, receiving, sending}
+use Rattle.delivery.specs.Plain.{PlainOutcome, Plain, Receiving, Sending, descriptor, first, notReceiving, notSending, receiving, sending}
 use Rattle.delivery.specs.Plain
-use Rattle.delivery.proofs.Invariant.{Inv, InvSend, bad, below-is, empty-receiving, entry-ok, found-receive, own-receive, plain, receiveState, receiverOf, senderOf, used-eq}
+use Rattle.delivery.proofs.Invariant.{Inv, InvSend, bad, below-is, empty-receiving, first-needs-ok, look-needs-receive, own-receive, plain, receiveState, receiverOf, senderOf, used-eq}
 use Rattle.delivery.proofs.Queue.{flat}
 
-abbrev pub asReceiver : Answer → Outcome
+abbrev pub asReceiver : PlainOutcome → Outcome
 asReceiver x =
     record { code = x .code; len = x .len; next = receiverOf (x .next); desc = descriptor (x .next); buf = x .next .buf; out = x .out }
 
-pub record ReceiveSim (p : Plain) (a : Outcome) (x : Answer) : Type 0 where
+pub record ReceiveSim (p : Plain) (a : Outcome) (x : PlainOutcome) : Type 0 where
   pub same : a ≡ asReceiver x
   pub other : senderOf (x .next) ≡ senderOf p
   pub good : Inv (x .next)
@@ -72,12 +72,12 @@ module _ (n : ℕ) (b : List ℕ) (P R : ℕ) (s : Sending) where
   look-code :
       (q : List (List ℕ)) (r : Receiving) → Inv (plain n b q P R s r)
       → Receive.lookNumber (receiveState n R (first q) r) (descriptor (plain n b q P R s r)) b ≡ Plain.receiveLookNumber (plain n b q P R s r)
-  unfolding receiveDecision receiveFound Plain.receiveLookNumber
+  unfolding receiveDecision receiveLookNeeds Plain.receiveLookNumber
   look-code [] notReceiving g =
-      entry-ok _ g _ _ ∙ ok 3 (fits-idle [] g) ∙ found-receive _ g _ ∙ rw (used-eq _ g) (unfold flat need in refl)
+      first-needs-ok _ g _ _ ∙ ok 3 (fits-idle [] g) ∙ look-needs-receive _ g _ ∙ rw (used-eq _ g) (unfold flat need in refl)
   look-code (m ∷ q) notReceiving g =
-      entry-ok _ g _ _ ∙ ok 3 (fits-idle (m ∷ q) g) ∙ found-receive _ g _ ∙ rw (used-eq _ g, ne-eqb _ 0 (nonempty m q notReceiving g), first-length m q notReceiving g, le-leb (length m) (length (flat (m ∷ q))) (omega (arith, first-size m q notReceiving g))) (unfold need in refl)
-  look-code q (receiving k) g = entry-ok _ g _ _ ∙ bad _ (fits-not q k g)
+      first-needs-ok _ g _ _ ∙ ok 3 (fits-idle (m ∷ q) g) ∙ look-needs-receive _ g _ ∙ rw (used-eq _ g, ne-eqb _ 0 (nonempty m q notReceiving g), first-length m q notReceiving g, le-leb (length m) (length (flat (m ∷ q))) (omega (arith, first-size m q notReceiving g))) (unfold need in refl)
+  look-code q (receiving k) g = first-needs-ok _ g _ _ ∙ bad _ (fits-not q k g)
 
   sim-look :
       (q : List (List ℕ)) (r : Receiving) → Inv (plain n b q P R s r)
@@ -139,9 +139,9 @@ module _ (n : ℕ) (b : List ℕ) (P R : ℕ) (s : Sending) where
       (q : List (List ℕ)) (r : Receiving) → Inv (plain n b q P R s r)
       → Receive.moveNumber (receiveState n R (first q) r) (descriptor (plain n b q P R s r)) b ≡ Plain.receiveMoveNumber (plain n b q P R s r)
   unfolding Receive.moveNumber Plain.receiveMoveNumber
-  move-code q notReceiving g = entry-ok _ g _ _ ∙ bad _ (fits-not-active q g)
+  move-code q notReceiving g = first-needs-ok _ g _ _ ∙ bad _ (fits-not-active q g)
   move-code q (receiving k) g =
-      entry-ok _ g _ _ ∙ ok 3 (fits-active q k g) ∙ ap (λ (t : Bool). need t 12 0) (below-is k (length (first q)) (g .receive .up-to))
+      first-needs-ok _ g _ _ ∙ ok 3 (fits-active q k g) ∙ ap (λ (t : Bool). need t 12 0) (below-is k (length (first q)) (g .receive .up-to))
 
   copy-on :
       (q : List (List ℕ)) (k : ℕ) → Inv (plain n b q P R s (receiving k)) → k < length (first q)
@@ -188,9 +188,9 @@ module _ (n : ℕ) (b : List ℕ) (P R : ℕ) (s : Sending) where
       (q : List (List ℕ)) (r : Receiving) (o : List ℕ) → Inv (plain n b q P R s r)
       → Receive.publishNumber (receiveState n R (first q) r) o (descriptor (plain n b q P R s r)) b ≡ Plain.receivePublishNumber (plain n b q P R s r) o
   unfolding Receive.publishNumberOf Plain.receivePublishNumber
-  pub-code q notReceiving o g = entry-ok _ g _ _ ∙ bad _ (fits-not-active q g)
+  pub-code q notReceiving o g = first-needs-ok _ g _ _ ∙ bad _ (fits-not-active q g)
   pub-code q (receiving k) o g =
-      entry-ok _ g _ _ ∙ ok 3 (fits-active q k g) ∙ ap (need (leb 256 (length o)) 5) (cases (leb (length (first q)) k)
+      first-needs-ok _ g _ _ ∙ ok 3 (fits-active q k g) ∙ ap (need (leb 256 (length o)) 5) (cases (leb (length (first q)) k)
       (λ e. ap (need (leb (length (first q)) k) 12) (ok 13 (copy-formed e)))
       (λ e. bad _ e ∙ sym (bad _ e)))
     where

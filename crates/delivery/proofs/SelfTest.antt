@@ -14,9 +14,10 @@ use Rattle.ring.specs.Ring.{allowed}
 use Rattle.runs.specs.Buffer.{stored}
 use Rattle.ring.proofs.Chains.{allowed-low, ok}
 use Rattle.message.proofs.Tests.{cases}
-use Rattle.delivery.specs.Loopback.{ComesBack, Loopback, comesBack, firstReceive, firstSend, loop}
-use Rattle.delivery.specs.Operations.{Seen, plainRun, plainSeen, receiveWhole, run, seen, sendWhole}
-use Rattle.delivery.specs.Plain.{Answer, Plain, notReceiving, notSending}
+use Rattle.delivery.specs.Loopback.{ComesBack, Loopback, canComeBack, firstReceive, firstSend, loop}
+use Rattle.channel.specs.Operations.{receiveWhole, sendWhole}
+use Rattle.delivery.specs.Operations.{Seen, plainRun, plainSeen, run, seen}
+use Rattle.delivery.specs.Plain.{PlainOutcome, Plain, notReceiving, notSending}
 use Rattle.delivery.specs.Plain
 use Rattle.delivery.proofs.Invariant.{bad, plain}
 use Rattle.delivery.proofs.Theorem.{demand3}
@@ -27,10 +28,10 @@ opened : List ℕ → Plain
 opened b = plain (length b) b [] 0 0 notSending notReceiving
 
 -- what it answers to both calls
-plain-send : List ℕ → List ℕ → Answer
+plain-send : List ℕ → List ℕ → PlainOutcome
 plain-send b m = Plain.sendWhole (opened b) m
 
-plain-receive : List ℕ → List ℕ → List ℕ → Answer
+plain-receive : List ℕ → List ℕ → List ℕ → PlainOutcome
 plain-receive b m o = Plain.receiveWhole (plain-send b m .next) o
 
 module _ (b m o : List ℕ) (a : allowed (length b) ≡ true) where
@@ -76,16 +77,16 @@ module _ (b m o : List ℕ) (a : allowed (length b) ≡ true) where
     second-same = cc both
 
     comes-back :
-        (x y : Answer) → plain-send b m ≡ x → plain-receive b m o ≡ y → x .code ≡ need (isMessage m) 4 0
-        → y .code ≡ need (leb 256 (length o)) 5 (need (isMessage m) 11 0) → y .len ≡ cond (comesBack m o) (length m) 0
-        → y .out ≡ cond (comesBack m o) (m ++ drop (length m) o) o → ComesBack m o (loop d b m o)
+        (x y : PlainOutcome) → plain-send b m ≡ x → plain-receive b m o ≡ y → x .code ≡ need (isMessage m) 4 0
+        → y .code ≡ need (leb 256 (length o)) 5 (need (isMessage m) 11 0) → y .len ≡ cond (canComeBack m o) (length m) 0
+        → y .out ≡ cond (canComeBack m o) (m ++ drop (length m) o) o → ComesBack m o (loop d b m o)
     unfolding loop
     comes-back x y ex ey c₁ c₂ n t =
         record {
-          sent = ap (λ (z : Seen). z .code) first-same ∙ ap (λ (z : Answer). z .code) ex ∙ c₁;
-          received = ap (λ (z : Seen). z .code) second-same ∙ ap (λ (z : Answer). z .code) ey ∙ c₂;
-          len = ap (λ (z : Seen). z .len) second-same ∙ ap (λ (z : Answer). z .len) ey ∙ n;
-          out = ap (λ (z : Seen). z .out) second-same ∙ ap (λ (z : Answer). z .out) ey ∙ t;
+          sent = ap (λ (z : Seen). z .code) first-same ∙ ap (λ (z : PlainOutcome). z .code) ex ∙ c₁;
+          received = ap (λ (z : Seen). z .code) second-same ∙ ap (λ (z : PlainOutcome). z .code) ey ∙ c₂;
+          len = ap (λ (z : Seen). z .len) second-same ∙ ap (λ (z : PlainOutcome). z .len) ey ∙ n;
+          out = ap (λ (z : Seen). z .out) second-same ∙ ap (λ (z : PlainOutcome). z .out) ey ∙ t;
         }
 
 pub loopback : Loopback

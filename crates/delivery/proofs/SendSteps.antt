@@ -13,26 +13,27 @@ use lib.Seq.{getD-set-same, take-suc, take-all}
 use lib.Dec.{leb, eqb}
 use Rattle.message.specs.Header.{isMessage, totalLength}
 use Rattle.message.proofs.Formed.{message-formed, message-length, message-long, message-short}
-use Rattle.ring.specs.Numbers.{marked, need, sendDecision, sendFound}
+use Rattle.ring.specs.Numbers.{marked, need, sendDecision, sendLookNeeds}
 use Rattle.channel.specs.Outcome.{Outcome}
 use Rattle.ring.specs.Ring.{free, head, tail}
 use Rattle.runs.specs.Buffer.{window}
 use Rattle.channel.specs.State.{activeSend, idle}
+use Rattle.channel.specs.Steps.{moves}
 use Rattle.channel.specs.Send
 use Rattle.ring.proofs.Chains.{ok}
 use Rattle.message.proofs.Tests.{cases}
 use Rattle.channel.proofs.Fits.{busy-active-send, busy-idle, idle-active-send, idle-idle}
 use Rattle.runs.proofs.Ring.{apart, window-append, window-set}
-use Rattle.delivery.specs.Plain.{Answer, Plain, Receiving, Sending, descriptor, first, notReceiving, notSending, receiving, sending}
+use Rattle.delivery.specs.Plain.{PlainOutcome, Plain, Receiving, Sending, descriptor, first, notReceiving, notSending, receiving, sending}
 use Rattle.delivery.specs.Plain
-use Rattle.delivery.proofs.Invariant.{AllMessages, Inv, InvReceive, bad, below-is, empty-receiving, entry-ok, found-send, n-low, own-send, plain, receiveState, receiverOf, sendState, senderOf, used-eq}
+use Rattle.delivery.proofs.Invariant.{AllMessages, Inv, InvReceive, bad, below-is, empty-receiving, first-needs-ok, look-needs-send, n-low, own-send, plain, receiveState, receiverOf, sendState, senderOf, used-eq}
 use Rattle.delivery.proofs.Queue.{flat, flat-snoc}
 
-abbrev pub asSender : Answer → Outcome
+abbrev pub asSender : PlainOutcome → Outcome
 asSender x =
     record { code = x .code; len = x .len; next = senderOf (x .next); desc = descriptor (x .next); buf = x .next .buf; out = x .out }
 
-pub record SendSim (p : Plain) (a : Outcome) (x : Answer) : Type 0 where
+pub record SendSim (p : Plain) (a : Outcome) (x : PlainOutcome) : Type 0 where
   pub same : a ≡ asSender x
   pub other : receiverOf (x .next) ≡ receiverOf p
   pub good : Inv (x .next)
@@ -53,10 +54,10 @@ module _ (n : ℕ) (b : List ℕ) (q : List (List ℕ)) (P R : ℕ) (r : Receivi
   look-code :
       (s : Sending) (m : List ℕ) → Inv (plain n b q P R s r)
       → Send.lookNumber (sendState n P s) m (descriptor (plain n b q P R s r)) b ≡ Plain.sendLookNumber (plain n b q P R s r) m
-  unfolding sendDecision sendFound isMessage Plain.sendLookNumber
+  unfolding sendDecision sendLookNeeds isMessage Plain.sendLookNumber
   look-code notSending m g =
-      entry-ok _ g _ _ ∙ ok 3 (fits-idle g) ∙ ap (need (isMessage m) 4) (found-send _ g _ ∙ ap (λ (x : ℕ). need (leb (length m) x) 10 0) (free-eq notSending g))
-  look-code (sending k m₀) m g = entry-ok _ g _ _ ∙ bad _ (fits-not k m₀ g)
+      first-needs-ok _ g _ _ ∙ ok 3 (fits-idle g) ∙ ap (need (isMessage m) 4) (look-needs-send _ g _ ∙ ap (λ (x : ℕ). need (leb (length m) x) 10 0) (free-eq notSending g))
+  look-code (sending k m₀) m g = first-needs-ok _ g _ _ ∙ bad _ (fits-not k m₀ g)
 
   sim-look : (s : Sending) (m : List ℕ) → Inv (plain n b q P R s r) → SendSim (plain n b q P R s r) (Send.look (sendState n P s) m (descriptor (plain n b q P R s r)) b) (Plain.sendLook (plain n b q P R s r) m)
   unfolding Send.lookBy marked Plain.sendLookBy Plain.sendLookNumber descriptor need window
@@ -107,9 +108,9 @@ module _ (n : ℕ) (b : List ℕ) (q : List (List ℕ)) (P R : ℕ) (r : Receivi
 
   move-code : (s : Sending) → Inv (plain n b q P R s r) → Send.moveNumber (sendState n P s) (descriptor (plain n b q P R s r)) b ≡ Plain.sendMoveNumber (plain n b q P R s r)
   unfolding Send.moveNumber Plain.sendMoveNumber
-  move-code notSending g = entry-ok _ g _ _ ∙ bad _ (fits-not-active g)
+  move-code notSending g = first-needs-ok _ g _ _ ∙ bad _ (fits-not-active g)
   move-code (sending k m) g =
-      entry-ok _ g _ _ ∙ ok 3 (fits-active k m g) ∙ ap (λ (t : Bool). need t 12 0) (below-is k (length m) (g .send .up-to))
+      first-needs-ok _ g _ _ ∙ ok 3 (fits-active k m g) ∙ ap (λ (t : Bool). need t 12 0) (below-is k (length m) (g .send .up-to))
 
   -- the store, and what it leaves: `v` for the dword stored
   module _ (k : ℕ) (m : List ℕ) (g : Inv (plain n b q P R (sending k m) r)) (h : k < length m) where
@@ -158,8 +159,8 @@ module _ (n : ℕ) (b : List ℕ) (q : List (List ℕ)) (P R : ℕ) (r : Receivi
 
   pub-code : (s : Sending) → Inv (plain n b q P R s r) → Send.publishNumber (sendState n P s) (descriptor (plain n b q P R s r)) b ≡ Plain.sendPublishNumber (plain n b q P R s r)
   unfolding Send.publishNumber Plain.sendPublishNumber
-  pub-code notSending g = entry-ok _ g _ _ ∙ bad _ (fits-not-active g)
-  pub-code (sending k m) g = entry-ok _ g _ _ ∙ ok 3 (fits-active k m g)
+  pub-code notSending g = first-needs-ok _ g _ _ ∙ bad _ (fits-not-active g)
+  pub-code (sending k m) g = first-needs-ok _ g _ _ ∙ ok 3 (fits-active k m g)
 
   snoc-formed : (u : List (List ℕ)) (m : List ℕ) → AllMessages u → isMessage m ≡ true → AllMessages (u ++ (m ∷ []))
   snoc-formed [] m a f = (f, tt)
@@ -227,18 +228,18 @@ module _ (p : Plain) (g : Inv p) where
 
 -- ---- a whole send
 
-pub moves-sim : (k : ℕ) (x : Answer) → Inv (x .next) → SendSim (x .next) (Send.moves k (asSender x)) (Plain.sendMoves k x)
-unfolding Send.moves Plain.sendMoves
+pub moves-sim : (k : ℕ) (x : PlainOutcome) → Inv (x .next) → SendSim (x .next) (moves Send.move k (asSender x)) (Plain.sendMoves k x)
+unfolding moves Plain.sendMoves
 moves-sim zero x g = record { same = refl; other = refl; good = g }
 moves-sim (suc k) x g =
     let h : SendSim (x .next) _ (Plain.sendMove (x .next)) = move-sim (x .next) g in
     let i : SendSim (Plain.sendMove (x .next) .next) _ (Plain.sendMoves k (Plain.sendMove (x .next))) = moves-sim k (Plain.sendMove (x .next)) (h .good) in
-    record { same = ap (Send.moves k) (h .same) ∙ i .same; other = i .other ∙ h .other; good = i .good }
+    record { same = ap (moves Send.move k) (h .same) ∙ i .same; other = i .other ∙ h .other; good = i .good }
 
-whole-from : (p : Plain) (l : ℕ) (a : Outcome) (x : Answer) → SendSim p a x → SendSim p (Send.rest l a) (Plain.sendRest l x)
-unfolding Send.rest Plain.sendRest
+whole-from : (p : Plain) (l : ℕ) (a : Outcome) (x : PlainOutcome) → SendSim p a x → SendSim p (Send.afterLook l a) (Plain.sendAfterLook l x)
+unfolding Send.afterLook Plain.sendAfterLook
 whole-from p l a x f =
-    let w : SendSim (x .next) (Send.moves l (asSender x)) (Plain.sendMoves l x) = moves-sim l x (f .good) in
+    let w : SendSim (x .next) (moves Send.move l (asSender x)) (Plain.sendMoves l x) = moves-sim l x (f .good) in
     let y : Plain = Plain.sendMoves l x .next in
     let v : SendSim y (Send.publish (senderOf y) (descriptor y) (y .buf)) (Plain.sendPublish y) = pub-sim y (w .good) in
     rw (f .same)

@@ -13,8 +13,9 @@ use Rattle.channel.specs.Outcome.{Outcome}
 use Rattle.ring.specs.Ring.{allowed}
 use Rattle.runs.specs.Buffer.{window}
 use Rattle.ring.proofs.Chains.{allowed-low}
-use Rattle.delivery.specs.Operations.{Channel, Op, after, begun, end, next, outcome, plainAnswer, plainEnd, plainRun, plainSeen, receiveLook, receiveMove, receivePublish, receiveWhole, run, seen, sendLook, sendMove, sendPublish, sendWhole}
-use Rattle.delivery.specs.Plain.{Answer, Plain, descriptor, fresh}
+use Rattle.channel.specs.Operations.{Op, receiveLook, receiveMove, receivePublish, receiveWhole, sendLook, sendMove, sendPublish, sendWhole, theReceiver, theSender}
+use Rattle.delivery.specs.Operations.{Channel, after, begun, end, withNext, outcome, plainOutcome, plainEnd, plainRun, plainSeen, run, seen}
+use Rattle.delivery.specs.Plain.{PlainOutcome, Plain, descriptor, fresh}
 use Rattle.delivery.proofs.Invariant.{Inv, channelOf}
 use Rattle.delivery.proofs.Queue.{flat}
 use Rattle.delivery.proofs.ReceiveSteps.{ReceiveSim}
@@ -23,12 +24,12 @@ use Rattle.delivery.proofs.ReceiveSteps
 use Rattle.delivery.proofs.WholeReceive
 use Rattle.delivery.proofs.SendSteps
 
-pub record Sim (p : Plain) (a : Outcome) (y : Channel) (x : Answer) : Type 0 where
+pub record Sim (p : Plain) (a : Outcome) (y : Channel) (x : PlainOutcome) : Type 0 where
   pub same : seen a ≡ plainSeen x
   pub ends : y ≡ channelOf (x .next)
   pub good : Inv (x .next)
 
-by-s : (p : Plain) (a : Outcome) (x : Answer) → SendSim p a x → Sim p a (next true (channelOf p) a) x
+by-s : (p : Plain) (a : Outcome) (x : PlainOutcome) → SendSim p a x → Sim p a (withNext theSender (channelOf p) a) x
 by-s p a x l =
     record {
       same = ap seen (l .same);
@@ -36,7 +37,7 @@ by-s p a x l =
       good = l .good;
     }
 
-by-r : (p : Plain) (a : Outcome) (x : Answer) → ReceiveSim p a x → Sim p a (next false (channelOf p) a) x
+by-r : (p : Plain) (a : Outcome) (x : PlainOutcome) → ReceiveSim p a x → Sim p a (withNext theReceiver (channelOf p) a) x
 by-r p a x l =
     record {
       same = ap seen (l .same);
@@ -44,7 +45,7 @@ by-r p a x l =
       good = l .good;
     }
 
-pub step-sim : (p : Plain) → Inv p → (o : Op) → Sim p (outcome (channelOf p) o) (after (channelOf p) o) (plainAnswer p o)
+pub step-sim : (p : Plain) → Inv p → (o : Op) → Sim p (outcome (channelOf p) o) (after (channelOf p) o) (plainOutcome p o)
 step-sim p g (sendLook m) = by-s p _ _ (SendSteps.look-sim p g m)
 step-sim p g sendMove = by-s p _ _ (SendSteps.move-sim p g)
 step-sim p g sendPublish = by-s p _ _ (SendSteps.pub-sim p g)
@@ -58,20 +59,20 @@ pub run-sim : (p : Plain) → Inv p → (list : List Op) → run (channelOf p) l
 unfolding run plainRun
 run-sim p g [] = refl
 run-sim p g (o ∷ os) =
-    let h : Sim p (outcome (channelOf p) o) (after (channelOf p) o) (plainAnswer p o) = step-sim p g o in
-    λ i. h .same i ∷ (ap (λ (y : Channel). run y os) (h .ends) ∙ run-sim (plainAnswer p o .next) (h .good) os) i
+    let h : Sim p (outcome (channelOf p) o) (after (channelOf p) o) (plainOutcome p o) = step-sim p g o in
+    λ i. h .same i ∷ (ap (λ (y : Channel). run y os) (h .ends) ∙ run-sim (plainOutcome p o .next) (h .good) os) i
 
 pub end-sim : (p : Plain) → Inv p → (list : List Op) → end (channelOf p) list ≡ channelOf (plainEnd p list)
 unfolding end plainEnd
 end-sim p g [] = refl
 end-sim p g (o ∷ os) =
-    let h : Sim p (outcome (channelOf p) o) (after (channelOf p) o) (plainAnswer p o) = step-sim p g o in
-    ap (λ (y : Channel). end y os) (h .ends) ∙ end-sim (plainAnswer p o .next) (h .good) os
+    let h : Sim p (outcome (channelOf p) o) (after (channelOf p) o) (plainOutcome p o) = step-sim p g o in
+    ap (λ (y : Channel). end y os) (h .ends) ∙ end-sim (plainOutcome p o .next) (h .good) os
 
 pub end-good : (p : Plain) → Inv p → (list : List Op) → Inv (plainEnd p list)
 unfolding plainEnd
 end-good p g [] = g
-end-good p g (o ∷ os) = end-good (plainAnswer p o .next) (step-sim p g o .good) os
+end-good p g (o ∷ os) = end-good (plainOutcome p o .next) (step-sim p g o .good) os
 
 -- ---- opening
 

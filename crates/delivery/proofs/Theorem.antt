@@ -16,12 +16,14 @@ use Rattle.ring.specs.Numbers.{need}
 use Rattle.channel.specs.Outcome.{Outcome}
 use Rattle.ring.specs.Ring.{allowed}
 use Rattle.runs.specs.Buffer.{stored, window}
+use Rattle.channel.specs.Steps.{moves, nextPlace}
 use Rattle.channel.specs.Send
 use Rattle.message.proofs.Tests.{cases}
 use Rattle.runs.proofs.Ring.{apart, window-mod}
-use Rattle.delivery.specs.Demand.{Call, Demand3, Serial, StoresAt, Unreleased, answers, cut, ended, endedBy, held, midway, published, publishedBy, received, receivedBy, result, unread, wholes}
-use Rattle.delivery.specs.Operations.{Channel, Op, Seen, after, end, plainAnswer, plainEnd, plainRun, plainSeen, receiveLook, receiveMove, receivePublish, receiveWhole, run, sendLook, sendMove, sendPublish, sendWhole}
-use Rattle.delivery.specs.Plain.{Answer, Plain, Receiving, Sending, descriptor, fresh, notSending, sending}
+use Rattle.delivery.specs.Demand.{Call, Demand3, Serial, StoresAt, Unreleased, answers, cut, ended, endedBy, held, midway, messagesPublished, publishedBy, messagesReceived, receivedBy, result, unread, wholes}
+use Rattle.channel.specs.Operations.{Op, receiveLook, receiveMove, receivePublish, receiveWhole, sendLook, sendMove, sendPublish, sendWhole}
+use Rattle.delivery.specs.Operations.{Channel, Seen, after, end, plainOutcome, plainEnd, plainRun, plainSeen, run}
+use Rattle.delivery.specs.Plain.{PlainOutcome, Plain, Receiving, Sending, descriptor, fresh, notSending, sending}
 use Rattle.delivery.specs.Plain
 use Rattle.delivery.proofs.Facts.{facts}
 use Rattle.delivery.proofs.Invariant.{AllMessages, Inv, channelOf, plain, sendState, senderOf, used-eq}
@@ -34,15 +36,15 @@ use Rattle.delivery.proofs.SendSteps
 
 -- ---- messages
 
-pub flow-run : (list : List Op) (p : Plain) → Inv p → (c : List ℕ) → HoldsMessage c (p .send) → p .queue ++ published c list (plainRun p list) ≡ received list (plainRun p list) ++ plainEnd p list .queue
-unfolding published received plainRun plainEnd
+pub flow-run : (list : List Op) (p : Plain) → Inv p → (c : List ℕ) → HoldsMessage c (p .send) → p .queue ++ messagesPublished c list (plainRun p list) ≡ messagesReceived list (plainRun p list) ++ plainEnd p list .queue
+unfolding messagesPublished messagesReceived plainRun plainEnd
 flow-run [] p g c h = append-nil (p .queue)
 flow-run (o ∷ os) p g c h =
-    let f : StepFacts p o (plainAnswer p o) = facts p g o in
-    let x : Plain = plainAnswer p o .next in
-    let a : Seen = plainSeen (plainAnswer p o) in
-    let i : x .queue ++ published (held c o a) os (plainRun x os) ≡ received os (plainRun x os) ++ plainEnd x os .queue = flow-run os x (step-sim p g o .good) (held c o a) (f .holds c h) in
-    sym (append-assoc (p .queue) (publishedBy c o a) _) ∙ ap (λ (l : List (List ℕ)). l ++ published (held c o a) os (plainRun x os)) (f .flow c h) ∙ append-assoc (receivedBy o a) (x .queue) _ ∙ ap (λ (l : List (List ℕ)). receivedBy o a ++ l) i ∙ sym (append-assoc (receivedBy o a) (received os (plainRun x os)) (plainEnd x os .queue))
+    let f : StepFacts p o (plainOutcome p o) = facts p g o in
+    let x : Plain = plainOutcome p o .next in
+    let a : Seen = plainSeen (plainOutcome p o) in
+    let i : x .queue ++ messagesPublished (held c o a) os (plainRun x os) ≡ messagesReceived os (plainRun x os) ++ plainEnd x os .queue = flow-run os x (step-sim p g o .good) (held c o a) (f .holds c h) in
+    sym (append-assoc (p .queue) (publishedBy c o a) _) ∙ ap (λ (l : List (List ℕ)). l ++ messagesPublished (held c o a) os (plainRun x os)) (f .flow c h) ∙ append-assoc (receivedBy o a) (x .queue) _ ∙ ap (λ (l : List (List ℕ)). receivedBy o a ++ l) i ∙ sym (append-assoc (receivedBy o a) (messagesReceived os (plainRun x os)) (plainEnd x os .queue))
 
 cut-flat : (f : ℕ) (q : List (List ℕ)) → AllMessages q → length (flat q) ≤ f → cut f (flat q) ≡ q
 unfolding cut flat
@@ -66,12 +68,12 @@ unread-queue p g =
 prun-append : (xs ys : List Op) (p : Plain) → plainRun p (xs ++ ys) ≡ plainRun p xs ++ plainRun (plainEnd p xs) ys
 unfolding plainRun plainEnd
 prun-append [] ys p = refl
-prun-append (o ∷ xs) ys p = ap (λ (l : List Seen). plainSeen (plainAnswer p o) ∷ l) (prun-append xs ys (plainAnswer p o .next))
+prun-append (o ∷ xs) ys p = ap (λ (l : List Seen). plainSeen (plainOutcome p o) ∷ l) (prun-append xs ys (plainOutcome p o .next))
 
 pend-append : (xs ys : List Op) (p : Plain) → plainEnd p (xs ++ ys) ≡ plainEnd (plainEnd p xs) ys
 unfolding plainEnd
 pend-append [] ys p = refl
-pend-append (o ∷ xs) ys p = pend-append xs ys (plainAnswer p o .next)
+pend-append (o ∷ xs) ys p = pend-append xs ys (plainOutcome p o .next)
 
 pub record RunWhole (p : Plain) (z : List ℕ) (y : Plain) (cs : List Call) : Type 0 where
   pub z′ : List ℕ
@@ -79,7 +81,7 @@ pub record RunWhole (p : Plain) (z : List ℕ) (y : Plain) (cs : List Call) : Ty
   pub to : plainEnd (serialOf p z) (wholes cs) ≡ serialOf y z′
   pub gave : map result (plainRun (serialOf p z) (wholes cs)) ≡ answers cs
 
-chain : (p : Plain) (z : List ℕ) (x : Answer) (cs : List Call) (y : Plain) (ds : List Call) (f : RanWhole p z x cs) → RunWhole (x .next) (f .z′) y ds → RunWhole p z y (cs ++ ds)
+chain : (p : Plain) (z : List ℕ) (x : PlainOutcome) (cs : List Call) (y : Plain) (ds : List Call) (f : RanWhole p z x cs) → RunWhole (x .next) (f .z′) y ds → RunWhole p z y (cs ++ ds)
 chain p z x cs y ds f r =
     let e : wholes (cs ++ ds) ≡ wholes cs ++ wholes ds = map-append _ cs ds in
     record {
@@ -95,9 +97,9 @@ module _ (any : ℕ → List ℕ) (any-len : (i : ℕ) → length (any i) ≡ 25
   unfolding ended plainRun plainEnd
   serial-run [] p g c h z l = record { z′ = z; lin = l; to = refl; gave = refl }
   serial-run (o ∷ os) p g c h z l =
-      let f : StepFacts p o (plainAnswer p o) = facts p g o in
-      let r : RanWhole p z (plainAnswer p o) (endedBy (any (length os)) c o (plainSeen (plainAnswer p o))) = f .ran c h (any (length os)) (any-len (length os)) z l in
-      chain p z (plainAnswer p o) _ _ _ r (serial-run os (plainAnswer p o .next) (step-sim p g o .good) (held c o (plainSeen (plainAnswer p o))) (f .holds c h) (r .z′) (r .lin))
+      let f : StepFacts p o (plainOutcome p o) = facts p g o in
+      let r : RanWhole p z (plainOutcome p o) (endedBy (any (length os)) c o (plainSeen (plainOutcome p o))) = f .ran c h (any (length os)) (any-len (length os)) z l in
+      chain p z (plainOutcome p o) _ _ _ r (serial-run os (plainOutcome p o .next) (step-sim p g o .good) (held c o (plainSeen (plainOutcome p o))) (f .holds c h) (r .z′) (r .lin))
 
 -- ---- stored
 
@@ -107,7 +109,7 @@ module _ (n : ℕ) (b : List ℕ) (q : List (List ℕ)) (P R : ℕ) (r : Receivi
   clear s g k l h f w e =
       apart n (w .i) (P + k) (omega arith) (omega (arith, g .count)) (sym (w .at) ∙ e ∙ mod-add-mod P n k)
 
-  move-safe : (s : Sending) → Inv (plain n b q P R s r) → Plain.sendMoveNumber (plain n b q P R s r) ≡ 0 → Unreleased (plain n b q P R s r) j → j ≡ Send.place (sendState n P s) b → ⊥
+  move-safe : (s : Sending) → Inv (plain n b q P R s r) → Plain.sendMoveNumber (plain n b q P R s r) ≡ 0 → Unreleased (plain n b q P R s r) j → j ≡ nextPlace (sendState n P s) b → ⊥
   unfolding Plain.sendMoveNumber need
   move-safe notSending g e w f = omega arith
   move-safe (sending k m) g e w f =
@@ -120,20 +122,20 @@ module _ (n : ℕ) (b : List ℕ) (q : List (List ℕ)) (P R : ℕ) (r : Receivi
   -- midway through a whole send
   midway-place :
       (m : List ℕ) → Inv (plain n b q P R notSending r) → isMessage m ≡ true → leb (length m) (n - 1 - (P - R)) ≡ true → (k : ℕ) → k < length m
-      → Send.place (midway (channelOf (plain n b q P R notSending r)) m k .next) (midway (channelOf (plain n b q P R notSending r)) m k .buf) ≡ (P % n + k) % n
+      → nextPlace (midway (channelOf (plain n b q P R notSending r)) m k .next) (midway (channelOf (plain n b q P R notSending r)) m k .buf) ≡ (P % n + k) % n
   unfolding Plain.sendLookBy Plain.sendLookNumber need
   midway-place m g t u k h =
       let p : Plain = plain n b q P R notSending r in
       let l : SendSim p (Send.look (sendState n P notSending) m (descriptor p) b) (Plain.sendLook p m) = SendSteps.look-sim p g m in
-      let w : SendSim (Plain.sendLook p m .next) (Send.moves k (asSender (Plain.sendLook p m))) (Plain.sendMoves k (Plain.sendLook p m)) = SendSteps.moves-sim k (Plain.sendLook p m) (l .good) in
+      let w : SendSim (Plain.sendLook p m .next) (moves Send.move k (asSender (Plain.sendLook p m))) (Plain.sendMoves k (Plain.sendLook p m)) = SendSteps.moves-sim k (Plain.sendLook p m) (l .good) in
       let y : Plain.sendMoves k (Plain.sendLook p m) .next ≡ plain n (stored b n P (take k m)) q P R (sending k m) r = send-moves n b q P R r m k (Plain.sendLook p m) (omega arith) (rw (t, u)) in
       let z : length (stored b n P (take k m)) ≡ n = sym (ap (λ (v : Plain). length (v .buf)) y) ∙ w .good .size ∙ ap (λ (v : Plain). v .n) y in
-      ap (λ (a : Outcome). Send.place (a .next) (a .buf)) (ap (Send.moves k) (l .same) ∙ w .same) ∙ ap (λ (v : Plain). Send.place (senderOf v) (v .buf)) y ∙ ap (λ (x : ℕ). (P % n + k) % x) z
+      ap (λ (a : Outcome). nextPlace (a .next) (a .buf)) (ap (moves Send.move k) (l .same) ∙ w .same) ∙ ap (λ (v : Plain). nextPlace (senderOf v) (v .buf)) y ∙ ap (λ (x : ℕ). (P % n + k) % x) z
 
   whole-safe :
       (s : Sending) (m : List ℕ) → Inv (plain n b q P R s r) → Plain.sendLook (plain n b q P R s r) m .code ≡ 0
       → Unreleased (plain n b q P R s r) j → (k : ℕ) → k < length m
-      → j ≡ Send.place (midway (channelOf (plain n b q P R s r)) m k .next) (midway (channelOf (plain n b q P R s r)) m k .buf) → ⊥
+      → j ≡ nextPlace (midway (channelOf (plain n b q P R s r)) m k .next) (midway (channelOf (plain n b q P R s r)) m k .buf) → ⊥
   unfolding Plain.sendLookBy Plain.sendLookNumber need
   whole-safe notSending m g e w k h f =
       cases (isMessage m)
@@ -146,13 +148,13 @@ module _ (n : ℕ) (b : List ℕ) (q : List (List ℕ)) (P R : ℕ) (r : Receivi
   whole-safe (sending k₀ m₀) m g e w k h f = let z : _≡_ {A = ℕ} 3 0 = e in omega arith
 
   -- the place of a store in the plain channel's words
-  move-place : (s : Sending) → Inv (plain n b q P R s r) → j ≡ Send.place (sendState n P s) b → j ≡ (P + sendState n P s .moved) % n
+  move-place : (s : Sending) → Inv (plain n b q P R s r) → j ≡ nextPlace (sendState n P s) b → j ≡ (P + sendState n P s .moved) % n
   move-place notSending g f = rw (g .size) at f ∙ mod-add-mod P n 0
   move-place (sending k m) g f = rw (g .size) at f ∙ mod-add-mod P n k
 
   whole-place :
       (s : Sending) (m : List ℕ) → Inv (plain n b q P R s r) → Plain.sendLook (plain n b q P R s r) m .code ≡ 0 → (k : ℕ) → k < length m
-      → j ≡ Send.place (midway (channelOf (plain n b q P R s r)) m k .next) (midway (channelOf (plain n b q P R s r)) m k .buf)
+      → j ≡ nextPlace (midway (channelOf (plain n b q P R s r)) m k .next) (midway (channelOf (plain n b q P R s r)) m k .buf)
       → j ≡ (P + k) % n
   unfolding Plain.sendLookBy Plain.sendLookNumber need
   whole-place notSending m g e k h f =
@@ -201,11 +203,11 @@ module _ (b : List ℕ) (a : allowed (length b) ≡ true) (list : List Op) where
   g₀ = fresh-good b a
 
   messages₀ :
-      received list (run (channelOf (fresh (length b) b)) list) ++ unread (end (channelOf (fresh (length b) b)) list .desc) (end (channelOf (fresh (length b) b)) list .buf) ≡ published [] list (run (channelOf (fresh (length b) b)) list)
+      messagesReceived list (run (channelOf (fresh (length b) b)) list) ++ unread (end (channelOf (fresh (length b) b)) list .desc) (end (channelOf (fresh (length b) b)) list .buf) ≡ messagesPublished [] list (run (channelOf (fresh (length b) b)) list)
   messages₀ =
       let p : Plain = plainEnd (fresh (length b) b) list in
       rw (run-sim (fresh (length b) b) g₀ list, end-sim (fresh (length b) b) g₀ list)
-      (ap (λ (l : List (List ℕ)). received list (plainRun (fresh (length b) b) list) ++ l) (unread-queue p (end-good (fresh (length b) b) g₀ list)) ∙ sym (flow-run list (fresh (length b) b) g₀ [] tt))
+      (ap (λ (l : List (List ℕ)). messagesReceived list (plainRun (fresh (length b) b) list) ++ l) (unread-queue p (end-good (fresh (length b) b) g₀ list)) ∙ sym (flow-run list (fresh (length b) b) g₀ [] tt))
 
   stores₀ :
       (pre : List Op) (o : Op) (j : ℕ) → Unreleased (plainEnd (fresh (length b) b) pre) j

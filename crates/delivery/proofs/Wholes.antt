@@ -13,12 +13,12 @@ use Rattle.message.specs.Header.{isMessage}
 use Rattle.ring.specs.Numbers.{need}
 use Rattle.runs.specs.Buffer.{stored}
 use Rattle.runs.proofs.Ring.{stored-take}
-use Rattle.delivery.specs.Plain.{Answer, Plain, Receiving, Sending, first, notReceiving, notSending, receiving, sending}
+use Rattle.delivery.specs.Plain.{PlainOutcome, Plain, Receiving, Sending, first, notReceiving, notSending, receiving, sending}
 use Rattle.delivery.specs.Plain
 use Rattle.delivery.proofs.Invariant.{plain}
 
 -- the answer of a refusal
-abbrev pub refusal : ℕ → List ℕ → Plain → Answer
+abbrev pub refusal : ℕ → List ℕ → Plain → PlainOutcome
 refusal c o p = record { code = c; len = 0; out = o; next = p }
 
 -- the number of a send's look, where the sender is not mid-call
@@ -28,7 +28,7 @@ roomNumber n P R m = need (isMessage m) 4 (need (leb (length m) (n - 1 - (P - R)
 module _ (n : ℕ) (b : List ℕ) (q : List (List ℕ)) (P R : ℕ) where
   module _ (r : Receiving) (m : List ℕ) where
     -- k dwords moved, and j more
-    pub send-moves-eq : (j k : ℕ) (x : Answer) → k + j ≤ length m → x .next ≡ plain n (stored b n P (take k m)) q P R (sending k m) r → Plain.sendMoves j x .next ≡ plain n (stored b n P (take (k + j) m)) q P R (sending (k + j) m) r
+    pub send-moves-eq : (j k : ℕ) (x : PlainOutcome) → k + j ≤ length m → x .next ≡ plain n (stored b n P (take k m)) q P R (sending k m) r → Plain.sendMoves j x .next ≡ plain n (stored b n P (take (k + j) m)) q P R (sending (k + j) m) r
     unfolding Plain.sendMoves Plain.sendMoveBy Plain.sendMoveNumber Plain.sendMoved need
     send-moves-eq zero k x h f =
         let e : k ≡ k + 0 = omega arith in
@@ -38,29 +38,29 @@ module _ (n : ℕ) (b : List ℕ) (q : List (List ℕ)) (P R : ℕ) where
         let e : suc k + j ≡ k + suc j = omega arith in
         send-moves-eq j (suc k) (Plain.sendMove (x .next)) (omega arith) t ∙ ap (λ (i : ℕ). plain n (stored b n P (take i m)) q P R (sending i m) r) e
 
-    pub send-moves : (j : ℕ) (x : Answer) → j ≤ length m → x .next ≡ plain n b q P R (sending 0 m) r → Plain.sendMoves j x .next ≡ plain n (stored b n P (take j m)) q P R (sending j m) r
+    pub send-moves : (j : ℕ) (x : PlainOutcome) → j ≤ length m → x .next ≡ plain n b q P R (sending 0 m) r → Plain.sendMoves j x .next ≡ plain n (stored b n P (take j m)) q P R (sending j m) r
     unfolding stored
     send-moves j x h f =
         let e : 0 + j ≡ j = omega arith in
         send-moves-eq j 0 x (omega arith) f ∙ ap (λ (i : ℕ). plain n (stored b n P (take i m)) q P R (sending i m) r) e
 
     pub send-whole-ok : roomNumber n P R m ≡ 0 → Plain.sendWhole (plain n b q P R notSending r) m ≡ record { code = 0; len = 0; out = []; next = plain n (stored b n P m) (q ++ (m ∷ [])) (P + length m) R notSending r }
-    unfolding Plain.sendRest Plain.sendLookBy Plain.sendLookNumber roomNumber Plain.sendPublishBy Plain.sendPublishNumber Plain.sendPublished need stored
+    unfolding Plain.sendAfterLook Plain.sendLookBy Plain.sendLookNumber roomNumber Plain.sendPublishBy Plain.sendPublishNumber Plain.sendPublished need stored
     send-whole-ok e =
-        let x : Answer = record { code = 0; len = 0; out = []; next = plain n b q P R (sending 0 m) r } in
+        let x : PlainOutcome = record { code = 0; len = 0; out = []; next = plain n b q P R (sending 0 m) r } in
         let t : Plain.sendMoves (length m) x .next ≡ plain n (stored b n P m) q P R (sending (length m) m) r = send-moves (length m) x (omega arith) refl ∙ ap (λ (l : List ℕ). plain n (stored b n P l) q P R (sending (length m) m) r) (take-all (length m) m (omega arith)) in
         rw e (rw (t, le-leb (length m) (length m) (omega arith)))
 
     pub send-whole-refused : (c : ℕ) → roomNumber n P R m ≡ c → eqb c 0 ≡ false → Plain.sendWhole (plain n b q P R notSending r) m ≡ refusal c [] (plain n b q P R notSending r)
-    unfolding Plain.sendRest Plain.sendLookBy Plain.sendLookNumber roomNumber
+    unfolding Plain.sendAfterLook Plain.sendLookBy Plain.sendLookNumber roomNumber
     send-whole-refused c e f = rw (e, f)
 
     pub send-whole-midcall : (k : ℕ) (m₀ : List ℕ) → Plain.sendWhole (plain n b q P R (sending k m₀) r) m ≡ refusal 3 [] (plain n b q P R (sending k m₀) r)
-    unfolding Plain.sendRest Plain.sendLookBy Plain.sendLookNumber
+    unfolding Plain.sendAfterLook Plain.sendLookBy Plain.sendLookNumber
     send-whole-midcall k m₀ = refl
 
   module _ (s : Sending) (o : List ℕ) where
-    receive-moves : (j k : ℕ) (x : Answer) → k + j ≡ length (first q) → x .next ≡ plain n b q P R s (receiving k) → Plain.receiveMoves j x .next ≡ plain n b q P R s (receiving (length (first q)))
+    receive-moves : (j k : ℕ) (x : PlainOutcome) → k + j ≡ length (first q) → x .next ≡ plain n b q P R s (receiving k) → Plain.receiveMoves j x .next ≡ plain n b q P R s (receiving (length (first q)))
     unfolding Plain.receiveMoves Plain.receiveMoveBy Plain.receiveMoveNumber need
     receive-moves zero k x e f =
         let k′ : k ≡ length (first q) = omega arith in
@@ -79,14 +79,14 @@ module _ (n : ℕ) (b : List ℕ) (q : List (List ℕ)) (P R : ℕ) where
 
 module _ (n : ℕ) (b : List ℕ) (P R : ℕ) (s : Sending) (o : List ℕ) (l : leb 256 (length o) ≡ true) where
   pub receive-whole-none : Plain.receiveWhole (plain n b [] P R s notReceiving) o ≡ refusal 11 o (plain n b [] P R s notReceiving)
-  unfolding Plain.receiveWholeBy Plain.receiveWholeNumber Plain.receiveLookBy Plain.receiveLookNumber Plain.receiveRest need
+  unfolding Plain.receiveWholeBy Plain.receiveWholeNumber Plain.receiveLookBy Plain.receiveLookNumber Plain.receiveAfterLook need
   receive-whole-none = rw l
 
   pub receive-whole-ok :
       (m : List ℕ) (q : List (List ℕ)) → 1 ≤ length m
       → Plain.receiveWhole (plain n b (m ∷ q) P R s notReceiving) o ≡ record { code = 0; len = length m; out = m ++ drop (length m) o; next = plain n b q P (R + length m) s notReceiving }
-  unfolding Plain.receiveWholeBy Plain.receiveWholeNumber Plain.receiveLookBy Plain.receiveLookNumber Plain.receiveRest Plain.receivePublishBy Plain.receivePublishNumber need
+  unfolding Plain.receiveWholeBy Plain.receiveWholeNumber Plain.receiveLookBy Plain.receiveLookNumber Plain.receiveAfterLook Plain.receivePublishBy Plain.receivePublishNumber need
   receive-whole-ok m q h =
-      let x : Answer = record { code = 0; len = 0; out = []; next = plain n b (m ∷ q) P R s (receiving 1) } in
+      let x : PlainOutcome = record { code = 0; len = 0; out = []; next = plain n b (m ∷ q) P R s (receiving 1) } in
       let t : Plain.receiveMoves (length m - 1) x .next ≡ plain n b (m ∷ q) P R s (receiving (length m)) = receive-moves n b (m ∷ q) P R s o (length m - 1) 1 x (omega arith) refl in
       rw l (rw (t, le-leb (length m) (length m) (omega arith)))

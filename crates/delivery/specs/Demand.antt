@@ -11,9 +11,11 @@ use Rattle.ring.specs.Ring.{allowed, head, tail, used}
 use Rattle.runs.specs.Buffer.{window}
 use Rattle.channel.specs.Outcome.{Outcome}
 use Rattle.channel.specs.Opening.{opening}
+use Rattle.channel.specs.Steps.{moves, nextPlace}
 use Rattle.channel.specs.Send
 use Rattle.delivery.specs.Plain.{Plain, notSending, notReceiving, fresh, descriptor}
-use Rattle.delivery.specs.Operations.{Op, sendLook, sendMove, sendPublish, sendWhole, receiveLook, receiveMove, receivePublish, receiveWhole, Seen, Channel, begun, outcome, after, run, end, plainRun, plainEnd}
+use Rattle.channel.specs.Operations.{Op, sendLook, sendMove, sendPublish, sendWhole, receiveLook, receiveMove, receivePublish, receiveWhole}
+use Rattle.delivery.specs.Operations.{Seen, Channel, begun, outcome, after, run, end, plainRun, plainEnd}
 
 -- ---- messages published, received and unread
 
@@ -39,10 +41,10 @@ publishedBy c receiveMove a = []
 publishedBy c (receivePublish o) a = []
 publishedBy c (receiveWhole o) a = []
 
-unfoldable pub published : List ℕ → List Op → List Seen → List (List ℕ)
-published c [] ss = []
-published c (o ∷ os) [] = []
-published c (o ∷ os) (a ∷ ss) = publishedBy c o a ++ published (held c o a) os ss
+unfoldable pub messagesPublished : List ℕ → List Op → List Seen → List (List ℕ)
+messagesPublished c [] ss = []
+messagesPublished c (o ∷ os) [] = []
+messagesPublished c (o ∷ os) (a ∷ ss) = publishedBy c o a ++ messagesPublished (held c o a) os ss
 
 -- 'received as the L dwords that a receive's publish or whole receive answering 0 lays'
 abbrev pub receivedBy : Op → Seen → List (List ℕ)
@@ -55,18 +57,19 @@ receivedBy receiveMove a = []
 receivedBy (receivePublish o) a = cond (eqb (a .code) 0) (take (a .len) (a .out) ∷ []) []
 receivedBy (receiveWhole o) a = cond (eqb (a .code) 0) (take (a .len) (a .out) ∷ []) []
 
-unfoldable pub received : List Op → List Seen → List (List ℕ)
-received [] ss = []
-received (o ∷ os) [] = []
-received (o ∷ os) (a ∷ ss) = receivedBy o a ++ received os ss
+unfoldable pub messagesReceived : List Op → List Seen → List (List ℕ)
+messagesReceived [] ss = []
+messagesReceived (o ∷ os) [] = []
+messagesReceived (o ∷ os) (a ∷ ss) = receivedBy o a ++ messagesReceived os ss
 
--- dwords cut into messages by their headers, at most `most` of them
+-- dwords cut into messages by their headers. At most `most` messages are cut off: that is what lets the definition end, and it leaves none out where
+-- `most` is at least the number of dwords, for every message takes at least one of them
 unfoldable pub cut : ℕ → List ℕ → List (List ℕ)
 cut zero dwords = []
 cut (suc most) [] = []
 cut (suc most) (h ∷ t) = take (totalLength h) (h ∷ t) ∷ cut most (drop (totalLength h) (h ∷ t))
 
--- 'Unread are the used dwords from HEAD on, cut by their headers.'
+-- 'Unread are the used dwords from HEAD on, cut by their headers.' There are fewer used dwords than N, so N messages are as many as they can be
 unfoldable pub unread : List ℕ → List ℕ → List (List ℕ)
 unread d b = cut (length b) (window b (length b) (head d) (used (length b) (head d) (tail d)))
 
@@ -81,16 +84,16 @@ pub record Unreleased (p : Plain) (j : ℕ) : Type 0 where
 
 -- a whole send after its look and k of its stores
 abbrev pub midway : Channel → List ℕ → ℕ → Outcome
-midway x m k = Send.moves k (Send.look (x .sender) m (x .desc) (x .buf))
+midway x m k = moves Send.move k (Send.look (x .sender) m (x .desc) (x .buf))
 
 -- place j is where the operation stores dword k of its message, by the channel's own words: a move the next dword; a whole send, where its look is
 -- accepted, dword k after k others
 abbrev pub StoresAt : Channel → Op → ℕ → ℕ → Type 0
 StoresAt x (sendLook m) k j = ⊥
-StoresAt x sendMove k j = (outcome x sendMove .code ≡ 0) × (k ≡ x .sender .moved) × (j ≡ Send.place (x .sender) (x .buf))
+StoresAt x sendMove k j = (outcome x sendMove .code ≡ 0) × (k ≡ x .sender .moved) × (j ≡ nextPlace (x .sender) (x .buf))
 StoresAt x sendPublish k j = ⊥
 StoresAt x (sendWhole m) k j =
-    (outcome x (sendLook m) .code ≡ 0) × (k < length m) × (j ≡ Send.place (midway x m k .next) (midway x m k .buf))
+    (outcome x (sendLook m) .code ≡ 0) × (k < length m) × (j ≡ nextPlace (midway x m k .next) (midway x m k .buf))
 StoresAt x receiveLook k j = ⊥
 StoresAt x receiveMove k j = ⊥
 StoresAt x (receivePublish o) k j = ⊥
@@ -155,8 +158,8 @@ pub record Demand (d b : List ℕ) (list : List Op) : Type 0 where
   pub opens : opening d b .code ≡ 0
   -- the messages received, then those unread, are those published, in order and dword for dword
   pub messages :
-      received list (run (begun d b) list) ++ unread (end (begun d b) list .desc) (end (begun d b) list .buf)
-      ≡ published [] list (run (begun d b) list)
+      messagesReceived list (run (begun d b) list) ++ unread (end (begun d b) list .desc) (end (begun d b) list .buf)
+      ≡ messagesPublished [] list (run (begun d b) list)
   -- 'no store landed' on a dword published and not yet released: each operation o of the list, after those before it, stores at no such place
   -- and changes the value of no such dword. (What is unreleased just before o is that of the list cut off there: the demand holds of every prefix.)
   pub stores :

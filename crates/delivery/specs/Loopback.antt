@@ -10,7 +10,8 @@ use Rattle.ring.specs.Ring.{allowed}
 use Rattle.ring.specs.Numbers.{need}
 use Rattle.channel.specs.Outcome.{Outcome}
 use Rattle.channel.specs.Opening.{opening}
-use Rattle.delivery.specs.Operations.{sendWhole, receiveWhole, begun, outcome, after}
+use Rattle.channel.specs.Operations.{sendWhole, receiveWhole}
+use Rattle.delivery.specs.Operations.{begun, outcome, after}
 use Rattle.delivery.specs.declared.Looped.{Looped}
 
 -- what the send and the receive give on a channel that is just opened over d and b, or is refused
@@ -50,8 +51,8 @@ looped r d b o =
     record { opened = r .opened; sent = r .sent; received = r .received; len = r .len; desc = d; buf = b; out = o }
 
 -- it can come back: it is a message, and the output is long enough
-abbrev pub comesBack : List ℕ → List ℕ → Bool
-comesBack m o = isMessage m && leb 256 (length o)
+abbrev pub canComeBack : List ℕ → List ℕ → Bool
+canComeBack m o = isMessage m && leb 256 (length o)
 
 -- what an opened channel does with one message
 pub record ComesBack (m o : List ℕ) (x : Loop) : Type 0 where
@@ -60,8 +61,8 @@ pub record ComesBack (m o : List ℕ) (x : Loop) : Type 0 where
   -- a receive by 5, or by 11 where nothing was sent
   pub received : x .received ≡ need (leb 256 (length o)) 5 (need (isMessage m) 11 0)
   -- the message comes back dword for dword, and the rest of the output is as it was
-  pub len : x .len ≡ cond (comesBack m o) (length m) 0
-  pub out : x .out ≡ cond (comesBack m o) (m ++ drop (length m) o) o
+  pub len : x .len ≡ cond (canComeBack m o) (length m) 0
+  pub out : x .out ≡ cond (canComeBack m o) (m ++ drop (length m) o) o
 
 -- a corollary of demand 3, for every channel that opens
 abbrev pub Loopback : Type 0

@@ -36,7 +36,7 @@ descriptor p = (p .R % p .n) ∷ (p .P % p .n) ∷ replicate 14 0
 
 -- what an operation gives: the number, L, the output after it, and the channel after it. 'A refusal changes nothing; the others answer 0,
 -- receives L as above.'
-pub record Answer : Type 0 where
+pub record PlainOutcome : Type 0 where
   pub code : ℕ
   pub len : ℕ
   pub out : List ℕ
@@ -88,20 +88,20 @@ sendLookNumber p m =
     unlessSending (p .send) (need (isMessage m) 4 (need (leb (length m) (p .n - 1 - (p .P - p .R))) 10 0))
 
 -- 'A look answered 0 makes its side mid-call, a send's with that message'
-unfoldable pub sendLookBy : ℕ → Plain → List ℕ → Answer
+unfoldable pub sendLookBy : ℕ → Plain → List ℕ → PlainOutcome
 sendLookBy c p m = record { code = c; len = 0; out = []; next = cond (eqb c 0) (withSend p (sending 0 m) (p .buf)) p }
 
-abbrev pub sendLook : Plain → List ℕ → Answer
+abbrev pub sendLook : Plain → List ℕ → PlainOutcome
 sendLook p m = sendLookBy (sendLookNumber p m) p m
 
 -- 'Receive: 11 on an empty queue, else k = 1, L its first message's.'
 unfoldable pub receiveLookNumber : Plain → ℕ
 receiveLookNumber p = unlessReceiving (p .receive) (need (pending (p .queue)) 11 0)
 
-unfoldable pub receiveLookBy : ℕ → Plain → Answer
+unfoldable pub receiveLookBy : ℕ → Plain → PlainOutcome
 receiveLookBy c p = record { code = c; len = 0; out = []; next = cond (eqb c 0) (withReceive p (receiving 1)) p }
 
-abbrev pub receiveLook : Plain → Answer
+abbrev pub receiveLook : Plain → PlainOutcome
 receiveLook p = receiveLookBy (receiveLookNumber p) p
 
 -- ---- 'Move: 3 if not mid-call, 12 if k = L. A send stores dword k at (P + k) mod N. k grows by 1.'
@@ -113,10 +113,10 @@ unfoldable pub sendMoved : Plain → Sending → Plain
 sendMoved p notSending = p
 sendMoved p (sending k m) = withSend p (sending (k + 1) m) (set (p .buf) ((p .P + k) % p .n) (getD m k 0))
 
-unfoldable pub sendMoveBy : ℕ → Plain → Answer
+unfoldable pub sendMoveBy : ℕ → Plain → PlainOutcome
 sendMoveBy c p = record { code = c; len = 0; out = []; next = cond (eqb c 0) (sendMoved p (p .send)) p }
 
-abbrev pub sendMove : Plain → Answer
+abbrev pub sendMove : Plain → PlainOutcome
 sendMove p = sendMoveBy (sendMoveNumber p) p
 
 unfoldable pub receiveMoveNumber : Plain → ℕ
@@ -126,11 +126,11 @@ abbrev pub receiveMoved : Receiving → Receiving
 receiveMoved notReceiving = notReceiving
 receiveMoved (receiving k) = receiving (k + 1)
 
-unfoldable pub receiveMoveBy : ℕ → Plain → Answer
+unfoldable pub receiveMoveBy : ℕ → Plain → PlainOutcome
 receiveMoveBy c p =
     record { code = c; len = 0; out = []; next = cond (eqb c 0) (withReceive p (receiveMoved (p .receive))) p }
 
-abbrev pub receiveMove : Plain → Answer
+abbrev pub receiveMove : Plain → PlainOutcome
 receiveMove p = receiveMoveBy (receiveMoveNumber p) p
 
 -- ---- 'Publish: 3 if not mid-call; a receive 5 on a short output; 12 if k is below L. Send: the message joins the queue, P grows by L.'
@@ -152,10 +152,10 @@ sendPublished p (sending k m) =
       receive = p .receive;
     }
 
-unfoldable pub sendPublishBy : ℕ → Plain → Answer
+unfoldable pub sendPublishBy : ℕ → Plain → PlainOutcome
 sendPublishBy c p = record { code = c; len = 0; out = []; next = cond (eqb c 0) (sendPublished p (p .send)) p }
 
-abbrev pub sendPublish : Plain → Answer
+abbrev pub sendPublish : Plain → PlainOutcome
 sendPublish p = sendPublishBy (sendPublishNumber p) p
 
 -- 'Receive: the queue's first goes to the output's front, R grows by L.'
@@ -175,7 +175,7 @@ receivePublished p =
       receive = notReceiving;
     }
 
-unfoldable pub receivePublishBy : ℕ → Plain → List ℕ → Answer
+unfoldable pub receivePublishBy : ℕ → Plain → List ℕ → PlainOutcome
 receivePublishBy c p o =
     record {
       code = c;
@@ -184,42 +184,42 @@ receivePublishBy c p o =
       next = cond (eqb c 0) (receivePublished p) p;
     }
 
-abbrev pub receivePublish : Plain → List ℕ → Answer
+abbrev pub receivePublish : Plain → List ℕ → PlainOutcome
 receivePublish p o = receivePublishBy (receivePublishNumber p o) p o
 
 -- ---- 'Whole call: 3 if mid-call; a receive 5; else look, moves and publish at once, or the look's refusal.'
 
-unfoldable pub sendMoves : ℕ → Answer → Answer
+unfoldable pub sendMoves : ℕ → PlainOutcome → PlainOutcome
 sendMoves zero x = x
 sendMoves (suc k) x = sendMoves k (sendMove (x .next))
 
 -- after the look: L moves and the publish. The look's own 3 is the whole call's.
-unfoldable pub sendRest : ℕ → Answer → Answer
-sendRest l x = cond (eqb (x .code) 0) (sendPublish (sendMoves l x .next)) x
+unfoldable pub sendAfterLook : ℕ → PlainOutcome → PlainOutcome
+sendAfterLook l x = cond (eqb (x .code) 0) (sendPublish (sendMoves l x .next)) x
 
-abbrev pub sendWhole : Plain → List ℕ → Answer
-sendWhole p m = sendRest (length m) (sendLook p m)
+abbrev pub sendWhole : Plain → List ℕ → PlainOutcome
+sendWhole p m = sendAfterLook (length m) (sendLook p m)
 
-unfoldable pub receiveMoves : ℕ → Answer → Answer
+unfoldable pub receiveMoves : ℕ → PlainOutcome → PlainOutcome
 receiveMoves zero x = x
 receiveMoves (suc k) x = receiveMoves k (receiveMove (x .next))
 
--- an answer with the output that is lent beside it
-abbrev pub beside : List ℕ → Answer → Answer
-beside o x = record { code = x .code; len = x .len; out = o; next = x .next }
+-- an outcome with the output that is lent beside it
+abbrev pub withOutput : List ℕ → PlainOutcome → PlainOutcome
+withOutput o x = record { code = x .code; len = x .len; out = o; next = x .next }
 
 -- after the look, which moved the first dword: L - 1 moves and the publish
-unfoldable pub receiveRest : ℕ → List ℕ → Answer → Answer
-receiveRest l o x = cond (eqb (x .code) 0) (receivePublish (receiveMoves (l - 1) x .next) o) (beside o x)
+unfoldable pub receiveAfterLook : ℕ → List ℕ → PlainOutcome → PlainOutcome
+receiveAfterLook l o x = cond (eqb (x .code) 0) (receivePublish (receiveMoves (l - 1) x .next) o) (withOutput o x)
 
 unfoldable pub receiveWholeNumber : Plain → List ℕ → ℕ
 receiveWholeNumber p o = unlessReceiving (p .receive) (need (leb 256 (length o)) 5 0)
 
-unfoldable pub receiveWholeBy : ℕ → Plain → List ℕ → Answer
+unfoldable pub receiveWholeBy : ℕ → Plain → List ℕ → PlainOutcome
 receiveWholeBy c p o =
     cond (eqb c 0)
-    (receiveRest (length (first (p .queue))) o (receiveLook p))
+    (receiveAfterLook (length (first (p .queue))) o (receiveLook p))
     (record { code = c; len = 0; out = o; next = p })
 
-abbrev pub receiveWhole : Plain → List ℕ → Answer
+abbrev pub receiveWhole : Plain → List ℕ → PlainOutcome
 receiveWhole p o = receiveWholeBy (receiveWholeNumber p o) p o

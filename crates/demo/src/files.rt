@@ -2,11 +2,11 @@
 use crate::laying::directory;
 use crate::laying::front;
 use crate::laying::image;
-use crate::words::number;
-use crate::words::text;
-use crate::words::told;
-use firmware::Answer;
+use crate::wording::number;
+use crate::wording::text;
+use crate::wording::told;
 use firmware::Component;
+use firmware::ImageAnswer;
 use firmware::Located;
 use firmware::ManifestVersion;
 use firmware::Version;
@@ -50,7 +50,7 @@ fn refusal(code: u32) {
 }
 
 // What an image was answered, and the start of the line for its parts.
-fn verdict(a: Answer, v: Version) {
+fn verdict(a: ImageAnswer, v: Version) {
     if a.code == 0 {
         text(b": accepted");
         version(v);

@@ -8,9 +8,9 @@ mod picture;
 mod refusals;
 mod steps;
 mod trouble;
-mod words;
+mod wording;
 
-use words::text;
+use wording::text;
 
 // The scenes: one channel through all of its own, then the files.
 fn main() {

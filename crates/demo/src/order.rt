@@ -4,7 +4,7 @@ use crate::calls::open;
 use crate::calls::picture;
 use crate::calls::receive;
 use crate::calls::send;
-use crate::words::text;
+use crate::wording::text;
 
 // A fresh channel, with nothing to receive.
 pub(crate) fn fresh() -> Ctb {

@@ -1,7 +1,7 @@
 // The ring as a picture: a character for 16 places, over it where head and tail are, behind it the figures.
 ghost use Prim.Native.Nat.{_<_};
-use crate::words::number;
-use crate::words::text;
+use crate::wording::number;
+use crate::wording::text;
 use message::dword_at;
 
 // Prints one character.

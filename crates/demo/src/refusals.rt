@@ -2,8 +2,8 @@
 use crate::calls::Ctb;
 use crate::picture::free_of;
 use crate::picture::used_of;
-use crate::words::number;
-use crate::words::text;
+use crate::wording::number;
+use crate::wording::text;
 use message::dword_at;
 
 // The rule of a number that a call answered.

@@ -8,8 +8,8 @@ use crate::calls::send_store;
 use crate::dwords::put;
 use crate::dwords::request;
 use crate::dwords::whole;
-use crate::words::dword;
-use crate::words::text;
+use crate::wording::dword;
+use crate::wording::text;
 
 // The caller overwrites its message after the look; what is stored is the sender's own copy.
 fn swapped_after_look(c: Ctb) -> Ctb {

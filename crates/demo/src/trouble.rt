@@ -6,7 +6,7 @@ use crate::calls::receive;
 use crate::calls::send;
 use crate::calls::with_dword;
 use crate::calls::with_tail;
-use crate::words::text;
+use crate::wording::text;
 
 // A header that says more dwords than are there, and a channel that stays broken until it is opened again.
 pub(crate) fn torn(c: Ctb) -> Ctb {

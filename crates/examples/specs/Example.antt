@@ -9,9 +9,9 @@ pub record Example : Type 1 where
   pub given : kind
   pub said : kind
 
-infix 5 _gives_
-abbrev pub _gives_ : {A : Type 0} → A → A → Example
-_gives_ {A} given said = record { kind = A; given = given; said = said }
+infix 5 _is_
+abbrev pub _is_ : {A : Type 0} → A → A → Example
+_is_ {A} given said = record { kind = A; given = given; said = said }
 
 -- in each of them the two are the same
 unfoldable pub Each : List Example → Type 0

@@ -14,19 +14,19 @@ abbrev pub message : Origin → ℕ → ℕ → Body → Message
 message from number after b = record { origin = from; fence = number; «num_dwords» = after; body = b }
 
 -- the n numbers from i on
-unfoldable pub counted : ℕ → ℕ → List ℕ
-counted i zero = []
-counted i (suc n) = i ∷ counted (suc i) n
+unfoldable pub countUp : ℕ → ℕ → List ℕ
+countUp i zero = []
+countUp i (suc n) = i ∷ countUp (suc i) n
 
 -- a well-formed message of L dwords: a header with fence 0x1234, the HXG word of a request, and then 2, 3, 4 and so on
 unfoldable pub dwords : ℕ → List ℕ
-dwords l = (0x12340000 + (l - 1)) ∷ 0x00000000 ∷ counted 2 (l - 2)
+dwords l = (0x12340000 + (l - 1)) ∷ 0x00000000 ∷ countUp 2 (l - 2)
 
 -- ---- the channel, at N = 1,024
 
 -- a descriptor by its HEAD, TAIL and STATUS; its reserved words are not 0
-unfoldable pub descriptor : ℕ → ℕ → ℕ → List ℕ
-descriptor hd tl st = hd ∷ tl ∷ st ∷ replicate 13 0xDDDDDDDD
+unfoldable pub descriptorWith : ℕ → ℕ → ℕ → List ℕ
+descriptorWith hd tl st = hd ∷ tl ∷ st ∷ replicate 13 0xDDDDDDDD
 
 -- n dwords of a buffer that nothing was stored in
 abbrev pub untouched : ℕ → List ℕ
@@ -63,11 +63,11 @@ unfoldable pub image : ℕ → List ℕ
 image n = cssHeader ++ replicate (n - 128) 0xCC
 
 -- an entry of a directory: its name, and where its part starts and how long it is
-unfoldable pub entry : List ℕ → ℕ → ℕ → List ℕ
-entry name start long = name ++ replicate (12 - length name) 0 ++ littles (start ∷ long ∷ 0 ∷ [])
+unfoldable pub entryBytes : List ℕ → ℕ → ℕ → List ℕ
+entryBytes name start long = name ++ replicate (12 - length name) 0 ++ littles (start ∷ long ∷ 0 ∷ [])
 
 -- a directory with H 20 and n 2 and nothing after its entries; its second entry is `huc_fw`, whose part is at 68
 unfoldable pub directory : ℕ → List ℕ
 directory long =
     (0x24 ∷ 0x43 ∷ 0x50 ∷ 0x44 ∷ []) ++ little 2 ++ (0 ∷ 0 ∷ 20 ∷ []) ++ replicate 9 0
-    ++ entry manifestName 68 0 ++ entry hucName 68 long
+    ++ entryBytes manifestName 68 0 ++ entryBytes hucName 68 long

@@ -5,7 +5,7 @@ use mathlib.Core.Bool.{Bool, true, false}
 use mathlib.Core.List.{List, [], _∷_, _++_, map}
 use mathlib.Core.Option.{none, some}
 use lib.ListN.{length, take, replicate}
-use Rattle.message.specs.Words.{Answer, packAnswer, unpackAnswer}
+use Rattle.message.specs.Packing.{Answer, packAnswer, unpackAnswer}
 use Rattle.message.specs.declared.Message.{Message}
 use Rattle.message.specs.declared.Origin.the-variants.{Host, Guc}
 use Rattle.message.specs.declared.Body.the-variants.{Request, Failure, Success}
@@ -13,6 +13,7 @@ use Rattle.ring.specs.Ring.{head, tail, free}
 use Rattle.channel.specs.State.{State, state, idleAt}
 use Rattle.channel.specs.Outcome.{Outcome, refused}
 use Rattle.channel.specs.Opening.{Opening, opening}
+use Rattle.channel.specs.Steps.{moves, nextPlace}
 use Rattle.channel.specs.Send
 use Rattle.channel.specs.Receive
 use Rattle.firmware.specs.Css
@@ -20,8 +21,8 @@ use Rattle.firmware.specs.Cpd
 use Rattle.firmware.specs.Inside.{hucName}
 use Rattle.firmware.specs.declared.css.Component.{Component}
 use Rattle.firmware.specs.declared.css.Component.the-variants.{Ucode, Rsa, Modulus, Exponent}
-use Rattle.examples.specs.Example.{Example, _gives_, Each}
-use Rattle.examples.specs.Inputs.{message, counted, dwords, descriptor, untouched, buffer, bufferWith, image, directory}
+use Rattle.examples.specs.Example.{Example, _is_, Each}
+use Rattle.examples.specs.Inputs.{message, countUp, dwords, descriptorWith, untouched, buffer, bufferWith, image, directory}
 
 -- ---- how a row says an answer
 
@@ -32,8 +33,8 @@ packed header word = record { number = 0; value = some (header, word) }
 abbrev pub unpacked : Message → Answer Message
 unpacked m = record { number = 0; value = some m }
 
-abbrev pub notPacked : ℕ → Answer (ℕ × ℕ)
-notPacked n = record { number = n; value = none }
+abbrev pub refusedPack : ℕ → Answer (ℕ × ℕ)
+refusedPack n = record { number = n; value = none }
 
 -- 0 with the next state, the descriptor and the buffer; `refused` of the channel is a number with those three
 abbrev pub accepted : State → List ℕ → List ℕ → Outcome
@@ -51,8 +52,8 @@ freeBy d = free 1024 (head d) (tail d)
 abbrev pub Part : Type 0
 Part = ℕ × ℕ
 
-abbrev pub nowhere : Part
-nowhere = (0, 0)
+abbrev pub emptyPart : Part
+emptyPart = (0, 0)
 
 -- a component of an image
 abbrev pub part : Component → List ℕ → Part
@@ -69,8 +70,8 @@ cpd b = (Cpd.number b hucName, (Cpd.place b hucName .from, Cpd.place b hucName .
 -- ---- channels that several rows speak of
 
 -- opened over a descriptor with other numbers in it
-unfoldable pub fresh : Opening
-fresh = opening (descriptor 700 300 4) buffer
+unfoldable pub freshChannel : Opening
+freshChannel = opening (descriptorWith 700 300 4) buffer
 
 -- after one whole send of 256 dwords, after two, after three, and after one of 255 more
 unfoldable pub once : Outcome
@@ -93,7 +94,7 @@ sendAfter x m = Send.whole (x .next) m (x .desc) (x .buf)
 
 -- a send of 8 dwords at offsets 1,020: its look, and k stores after it
 unfoldable pub stores : ℕ → Outcome
-stores k = Send.moves k (Send.look (idleAt 1024 1020) (dwords 8) (descriptor 1020 1020 0) buffer)
+stores k = moves Send.move k (Send.look (idleAt 1024 1020) (dwords 8) (descriptorWith 1020 1020 0) buffer)
 
 -- the buffer afterwards, place by place
 unfoldable pub around : List ℕ
@@ -104,74 +105,74 @@ around = 4 ∷ 5 ∷ 6 ∷ 7 ∷ untouched 1016 ++ (0x12340007 ∷ 0x00000000 �
 unfoldable pub table : List Example
 table =
     -- 'P Fence 0x1234, NUM_DWORDS 1: 0x12340001.'
-    (packAnswer (message Host 0x1234 1 (Request 0 0)) gives packed 0x12340001 0x00000000)
+    (packAnswer (message Host 0x1234 1 (Request 0 0)) is packed 0x12340001 0x00000000)
     -- 'P GuC success, data 0: 0xF0000000.'
-    ∷ (packAnswer (message Guc 0x1234 1 (Success 0)) gives packed 0x12340001 0xF0000000)
+    ∷ (packAnswer (message Guc 0x1234 1 (Success 0)) is packed 0x12340001 0xF0000000)
     -- 'P GuC failure, hint 0x0AB, error 0x10: 0xE0AB0010.'
-    ∷ (packAnswer (message Guc 0x1234 1 (Failure 0x0AB 0x10)) gives packed 0x12340001 0xE0AB0010)
+    ∷ (packAnswer (message Guc 0x1234 1 (Failure 0x0AB 0x10)) is packed 0x12340001 0xE0AB0010)
     -- 'Data 0x1000 in a request: 14.'
-    ∷ (packAnswer (message Host 0x1234 1 (Request 0x1000 0)) gives notPacked 14)
+    ∷ (packAnswer (message Host 0x1234 1 (Request 0x1000 0)) is refusedPack 14)
     -- Ours: the same lines unpacked, and the widest data of a request.
-    ∷ (unpackAnswer (0x12340001 ∷ 0xF0000000 ∷ []) gives unpacked (message Guc 0x1234 1 (Success 0)))
-    ∷ (unpackAnswer (0x12340001 ∷ 0xE0AB0010 ∷ []) gives unpacked (message Guc 0x1234 1 (Failure 0x0AB 0x10)))
-    ∷ (packAnswer (message Host 0x1234 1 (Request 0xFFF 0)) gives packed 0x12340001 0x0FFF0000)
+    ∷ (unpackAnswer (0x12340001 ∷ 0xF0000000 ∷ []) is unpacked (message Guc 0x1234 1 (Success 0)))
+    ∷ (unpackAnswer (0x12340001 ∷ 0xE0AB0010 ∷ []) is unpacked (message Guc 0x1234 1 (Failure 0x0AB 0x10)))
+    ∷ (packAnswer (message Host 0x1234 1 (Request 0xFFF 0)) is packed 0x12340001 0x0FFF0000)
     -- 'P N = 1,024 fresh: free 1,023.'
-    ∷ (freeBy (fresh .desc) gives 1023)
+    ∷ (freeBy (freshChannel .desc) is 1023)
     -- Ours: all that such an opening gives.
-    ∷ (fresh gives opens (idleAt 1024 0) (idleAt 1024 0) (replicate 16 0) buffer)
+    ∷ (freshChannel is opens (idleAt 1024 0) (idleAt 1024 0) (replicate 16 0) buffer)
     -- 'P After 256 three times, free 255: ..'
-    ∷ (Send.whole (fresh .sender) (dwords 256) (fresh .desc) (fresh .buf) gives once)
-    ∷ (sendAfter once (dwords 256) gives twice)
-    ∷ (sendAfter twice (dwords 256) gives thrice)
-    ∷ (freeBy (thrice .desc) gives 255)
+    ∷ (Send.whole (freshChannel .sender) (dwords 256) (freshChannel .desc) (freshChannel .buf) is once)
+    ∷ (sendAfter once (dwords 256) is twice)
+    ∷ (sendAfter twice (dwords 256) is thrice)
+    ∷ (freeBy (thrice .desc) is 255)
     -- '.. 256 gets 10, ..'
-    ∷ (sendAfter thrice (dwords 256) gives refused 10 (thrice .next) (thrice .desc) (thrice .buf) [])
+    ∷ (sendAfter thrice (dwords 256) is refused 10 (thrice .next) (thrice .desc) (thrice .buf) [])
     -- '.. 255 is accepted, free 0.'
-    ∷ (sendAfter thrice (dwords 255) gives full)
-    ∷ (freeBy (full .desc) gives 0)
+    ∷ (sendAfter thrice (dwords 255) is full)
+    ∷ (freeBy (full .desc) is 0)
     -- Ours: then not even 2 are accepted.
-    ∷ (sendAfter full (dwords 2) gives refused 10 (full .next) (full .desc) (full .buf) [])
+    ∷ (sendAfter full (dwords 2) is refused 10 (full .next) (full .desc) (full .buf) [])
     -- 'P N = 1,024, offsets 1,020, L = 8: stores at 1,020 to 1,023 and 0 to 3, ..'
-    ∷ (map (λ k. Send.place (stores k .next) (stores k .buf)) (counted 0 8) gives 1020 ∷ 1021 ∷ 1022 ∷ 1023 ∷ 0 ∷ 1 ∷ 2 ∷ 3 ∷ [])
-    ∷ (stores 8 gives accepted (state 1024 1020 8 8 (dwords 8 ++ replicate 248 0)) (descriptor 1020 1020 0) around)
+    ∷ (map (λ k. nextPlace (stores k .next) (stores k .buf)) (countUp 0 8) is 1020 ∷ 1021 ∷ 1022 ∷ 1023 ∷ 0 ∷ 1 ∷ 2 ∷ 3 ∷ [])
+    ∷ (stores 8 is accepted (state 1024 1020 8 8 (dwords 8 ++ replicate 248 0)) (descriptorWith 1020 1020 0) around)
     -- '.. TAIL 4.'
-    ∷ (Send.publishAfter (stores 8) gives accepted (idleAt 1024 4) (descriptor 1020 4 0) around)
-    ∷ (Send.whole (idleAt 1024 1020) (dwords 8) (descriptor 1020 1020 0) buffer gives accepted (idleAt 1024 4) (descriptor 1020 4 0) around)
+    ∷ (Send.publishAfter (stores 8) is accepted (idleAt 1024 4) (descriptorWith 1020 4 0) around)
+    ∷ (Send.whole (idleAt 1024 1020) (dwords 8) (descriptorWith 1020 1020 0) buffer is accepted (idleAt 1024 4) (descriptorWith 1020 4 0) around)
     -- 'P TAIL 1,024 at N = 1,024: 7, STATUS 1.', at a send's look and at a receive's
-    ∷ (Send.look (idleAt 1024 0) (dwords 2) (descriptor 0 1024 0) buffer gives refused 7 (idleAt 1024 0) (descriptor 0 1024 1) buffer [])
-    ∷ (Receive.look (idleAt 1024 0) (descriptor 0 1024 0) buffer gives refused 7 (idleAt 1024 0) (descriptor 0 1024 1) buffer [])
+    ∷ (Send.look (idleAt 1024 0) (dwords 2) (descriptorWith 0 1024 0) buffer is refused 7 (idleAt 1024 0) (descriptorWith 0 1024 1) buffer [])
+    ∷ (Receive.look (idleAt 1024 0) (descriptorWith 0 1024 0) buffer is refused 7 (idleAt 1024 0) (descriptorWith 0 1024 1) buffer [])
     -- 'Own tail 8, TAIL 12: 8, STATUS 4.'
-    ∷ (Send.look (idleAt 1024 8) (dwords 2) (descriptor 0 12 0) buffer gives refused 8 (idleAt 1024 8) (descriptor 0 12 4) buffer [])
+    ∷ (Send.look (idleAt 1024 8) (dwords 2) (descriptorWith 0 12 0) buffer is refused 8 (idleAt 1024 8) (descriptorWith 0 12 4) buffer [])
     -- 'STATUS 8: 6.', at both looks
-    ∷ (Send.look (idleAt 1024 0) (dwords 2) (descriptor 0 0 8) buffer gives refused 6 (idleAt 1024 0) (descriptor 0 0 8) buffer [])
-    ∷ (Receive.look (idleAt 1024 0) (descriptor 0 0 8) buffer gives refused 6 (idleAt 1024 0) (descriptor 0 0 8) buffer [])
+    ∷ (Send.look (idleAt 1024 0) (dwords 2) (descriptorWith 0 0 8) buffer is refused 6 (idleAt 1024 0) (descriptorWith 0 0 8) buffer [])
+    ∷ (Receive.look (idleAt 1024 0) (descriptorWith 0 0 8) buffer is refused 6 (idleAt 1024 0) (descriptorWith 0 0 8) buffer [])
     -- 'P Header 0x00000005 with 3 used: 9, STATUS 2, HEAD stays.'
-    ∷ (Receive.look (idleAt 1024 8) (descriptor 8 11 0) (bufferWith 0x00000005)
-    gives refused 9 (idleAt 1024 8) (descriptor 8 11 2) (bufferWith 0x00000005) [])
+    ∷ (Receive.look (idleAt 1024 8) (descriptorWith 8 11 0) (bufferWith 0x00000005)
+    is refused 9 (idleAt 1024 8) (descriptorWith 8 11 2) (bufferWith 0x00000005) [])
     -- Ours: header 0x00000025, which is L 38, with 10 used is 9 too, where a length mask of five bits would read L 6; with 38 used it is
     -- accepted.
-    ∷ (Receive.look (idleAt 1024 8) (descriptor 8 18 0) (bufferWith 0x00000025)
-    gives refused 9 (idleAt 1024 8) (descriptor 8 18 2) (bufferWith 0x00000025) [])
-    ∷ (Receive.look (idleAt 1024 8) (descriptor 8 46 0) (bufferWith 0x00000025)
-    gives accepted (state 1024 8 38 1 (0x00000025 ∷ replicate 255 0)) (descriptor 8 46 0) (bufferWith 0x00000025))
+    ∷ (Receive.look (idleAt 1024 8) (descriptorWith 8 18 0) (bufferWith 0x00000025)
+    is refused 9 (idleAt 1024 8) (descriptorWith 8 18 2) (bufferWith 0x00000025) [])
+    ∷ (Receive.look (idleAt 1024 8) (descriptorWith 8 46 0) (bufferWith 0x00000025)
+    is accepted (state 1024 8 38 1 (0x00000025 ∷ replicate 255 0)) (descriptorWith 8 46 0) (bufferWith 0x00000025))
     -- 'P k 64, m 64, e 1, h 161, s 1,161: ..'
-    ∷ (map (Css.dword (image 4644)) (7 ∷ 8 ∷ 9 ∷ 1 ∷ 6 ∷ []) gives 64 ∷ 64 ∷ 1 ∷ 161 ∷ 1161 ∷ [])
+    ∷ (map (Css.headerDword (image 4644)) (7 ∷ 8 ∷ 9 ∷ 1 ∷ 6 ∷ []) is 64 ∷ 64 ∷ 1 ∷ 161 ∷ 1161 ∷ [])
     -- Ours: the blobs have as many bytes as the lines below say.
-    ∷ (map (λ n. length (image n)) (4383 ∷ 4384 ∷ 4643 ∷ 4644 ∷ []) gives 4383 ∷ 4384 ∷ 4643 ∷ 4644 ∷ [])
+    ∷ (map (λ n. length (image n)) (4383 ∷ 4384 ∷ 4643 ∷ 4644 ∷ []) is 4383 ∷ 4384 ∷ 4643 ∷ 4644 ∷ [])
     -- '.. uCode 128 to 4,128, RSA to 4,384, modulus to 4,640, exponent to 4,644 (ends excluded). .. 4,644: full.'
-    ∷ (css (image 4644) gives (0, false, (128, 4128), (4128, 4384), (4384, 4640), (4640, 4644)))
+    ∷ (css (image 4644) is (0, false, (128, 4128), (4128, 4384), (4384, 4640), (4640, 4644)))
     -- 'P Blob of 4,383 bytes: 17.'
-    ∷ (css (image 4383) gives (17, false, nowhere, nowhere, nowhere, nowhere))
+    ∷ (css (image 4383) is (17, false, emptyPart, emptyPart, emptyPart, emptyPart))
     -- '4,384 and 4,643: truncated.'
-    ∷ (css (image 4384) gives (0, true, (128, 4128), (4128, 4384), nowhere, nowhere))
-    ∷ (css (image 4643) gives (0, true, (128, 4128), (4128, 4384), nowhere, nowhere))
+    ∷ (css (image 4384) is (0, true, (128, 4128), (4128, 4384), emptyPart, emptyPart))
+    ∷ (css (image 4643) is (0, true, (128, 4128), (4128, 4384), emptyPart, emptyPart))
     -- 'CPD with H 20, n 2: 67 bytes 19; ..'
-    ∷ (cpd (take 67 (directory 0)) gives (19, nowhere))
+    ∷ (cpd (take 67 (directory 0)) is (19, emptyPart))
     -- '.. 68 bytes, part at 68 of length 1: 21; ..'
-    ∷ (length (directory 1) gives 68)
-    ∷ (cpd (directory 1) gives (21, nowhere))
+    ∷ (length (directory 1) is 68)
+    ∷ (cpd (directory 1) is (21, emptyPart))
     -- '.. of length 0: an empty part.'
-    ∷ (cpd (directory 0) gives (0, (68, 68)))
+    ∷ (cpd (directory 0) is (0, (68, 68)))
     ∷ []
 
 -- THE STATEMENT: the definitions give each

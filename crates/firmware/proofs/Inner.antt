@@ -27,9 +27,9 @@ chosen at n t true p h =
     simp (away, d)
 chosen at n t false p h = refl
 
-outer-located : (at : ℕ) (which : Component) (i : List ℕ) → outer at (Css.located which i) ≡ placed (Css.number i) (Css.truncated i) (cond (Css.shown which i) (within at (Css.laid which (Css.sizes i))) nowhere)
+outer-located : (at : ℕ) (which : Component) (i : List ℕ) → outer at (Css.located which i) ≡ placed (Css.number i) (Css.truncated i) (cond (Css.shown which i) (within at (Css.spanOf which (Css.sizes i))) nowhere)
 unfolding Css.place
-outer-located at which i = chosen at (Css.number i) (Css.truncated i) (Css.shown which i) (Css.laid which (Css.sizes i)) (λ e. shown-beyond i which e .after)
+outer-located at which i = chosen at (Css.number i) (Css.truncated i) (Css.shown which i) (Css.spanOf which (Css.sizes i)) (λ e. shown-beyond i which e .after)
 
 -- the bytes of a part that is found
 pub found-bytes : (b name : List ℕ) {f : Located} → f ≡ Cpd.located b name → bytes b (span (f .start) (f .start + f .len)) ≡ partNamed b name

@@ -18,7 +18,7 @@ use Rattle.firmware.proofs.Nowhere.{image-nowhere}
 
 refused : (b : List ℕ) (which : Component) (k : ℕ) → Css.number b ≡ suc k → Css.located which b ≡ placed (suc k) false nowhere
 refused b which k e =
-    let a : Css.accepted b ≡ false = ne-eqb (Css.number b) 0 (λ z. absurd (omega arith)) in
+    let a : Css.isImage b ≡ false = ne-eqb (Css.number b) 0 (λ z. absurd (omega arith)) in
     image-nowhere b which a ∙ rw e
 
 pub no-header : (b : List ℕ) (which : Component) → length b < 128 → Css.located which b ≡ placed 15 false nowhere
@@ -70,31 +70,31 @@ module _ (b : List ℕ) (n : ℕ) (z : Sizes) (l : length b ≡ n) (s : Css.size
       unfolding Css.number
       number = simp (l, s, le-ltb n 128 h, a, le-ltb n (modulus z) g)
 
-      shown : (which : Component) (needed : ℕ) (p : Span) → Css.shown which b ≡ leb needed n → Css.laid which z ≡ p → Css.located which b ≡ handed n z needed p
+      shown : (which : Component) (needed : ℕ) (p : Span) → Css.shown which b ≡ leb needed n → Css.spanOf which z ≡ p → Css.located which b ≡ handed n z needed p
       unfolding Css.truncated Css.place
       shown which needed p q e = simp (number, q, l, s, e, fewer n (4 * z .s) (leb (4 * z .s) n) refl)
 
       -- uCode and RSA are shown: whatever they need is there
-      front-shown : (needed : ℕ) → needed ≤ n → Css.accepted b ≡ leb needed n
+      front-shown : (needed : ℕ) → needed ≤ n → Css.isImage b ≡ leb needed n
       front-shown needed f = eq-eqb (Css.number b) 0 number ∙ sym (le-leb needed n f)
 
       -- modulus and exponent need all of the image
-      back-shown : (needed : ℕ) → needed ≡ 4 * z .s → (Css.accepted b && Css.whole b) ≡ leb needed n
+      back-shown : (needed : ℕ) → needed ≡ 4 * z .s → (Css.isImage b && Css.allThere b) ≡ leb needed n
       back-shown needed f = simp (f, number, l, s)
 
       module _ (needed from to : ℕ) where
         pub ucode-handed : needed ≤ n → from ≡ 128 → to ≡ rsa z → Css.located Ucode b ≡ handed n z needed (span from to)
-        unfolding Css.shown Css.laid
+        unfolding Css.shown Css.spanOf
         ucode-handed f g h = shown Ucode needed (span from to) (front-shown needed f) (rw (g, h))
 
         pub rsa-handed : needed ≤ n → from ≡ rsa z → to ≡ modulus z → Css.located Rsa b ≡ handed n z needed (span from to)
-        unfolding Css.shown Css.laid
+        unfolding Css.shown Css.spanOf
         rsa-handed f g h = shown Rsa needed (span from to) (front-shown needed f) (rw (g, h))
 
         pub modulus-handed : needed ≡ 4 * z .s → from ≡ modulus z → to ≡ exponent z → Css.located Modulus b ≡ handed n z needed (span from to)
-        unfolding Css.shown Css.laid
+        unfolding Css.shown Css.spanOf
         modulus-handed f g h = shown Modulus needed (span from to) (back-shown needed f) (rw (g, h))
 
         pub exponent-handed : needed ≡ 4 * z .s → from ≡ exponent z → to ≡ exponent z + 4 * z .e → Css.located Exponent b ≡ handed n z needed (span from to)
-        unfolding Css.shown Css.laid
+        unfolding Css.shown Css.spanOf
         exponent-handed f g h = shown Exponent needed (span from to) (back-shown needed f) (rw (g, h))

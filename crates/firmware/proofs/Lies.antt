@@ -74,16 +74,16 @@ pub record Beyond (n : ℕ) (p : Span) : Type 0 where
   pub after : 128 ≤ p .from
   pub lies : Lies n p
 
-pub shown-beyond : (b : List ℕ) (which : Component) → Css.shown which b ≡ true → Beyond (length b) (Css.laid which (Css.sizes b))
-unfolding Css.shown Css.laid
+pub shown-beyond : (b : List ℕ) (which : Component) → Css.shown which b ≡ true → Beyond (length b) (Css.spanOf which (Css.sizes b))
+unfolding Css.shown Css.spanOf
 shown-beyond b Ucode e = let a = css-accepted b (eqb-true (Css.number b) 0 e) in omega arith
 shown-beyond b Rsa e = let a = css-accepted b (eqb-true (Css.number b) 0 e) in omega arith
 shown-beyond b Modulus e =
-    let t = both (Css.accepted b) (Css.whole b) e in
+    let t = both (Css.isImage b) (Css.allThere b) e in
     let a = css-accepted b (eqb-true (Css.number b) 0 (t .0)) in
     omega (arith, leb-true (4 * Css.sizes b .s) (length b) (t .1))
 shown-beyond b Exponent e =
-    let t = both (Css.accepted b) (Css.whole b) e in
+    let t = both (Css.isImage b) (Css.allThere b) e in
     let a = css-accepted b (eqb-true (Css.number b) 0 (t .0)) in
     omega (arith, leb-true (4 * Css.sizes b .s) (length b) (t .1))
 
@@ -92,8 +92,8 @@ unfolding Css.place
 css-lies b which = either (Lies (length b)) (Css.shown which b) _ _ (λ e. shown-beyond b which e .lies) (λ _. omega arith)
 
 -- the last component ends at 4s: 'Bytes past 4s belong to no part.'
-pub ends-at-4s : (b : List ℕ) → Css.number b ≡ 0 → Css.laid Exponent (Css.sizes b) .to ≡ 4 * Css.sizes b .s
-unfolding Css.laid
+pub ends-at-4s : (b : List ℕ) → Css.number b ≡ 0 → Css.spanOf Exponent (Css.sizes b) .to ≡ 4 * Css.sizes b .s
+unfolding Css.spanOf
 ends-at-4s b e = let a = css-accepted b e in omega arith
 
 -- the entries of a directory lie within the blob
@@ -101,7 +101,7 @@ entries-there : (b : List ℕ) → Cpd.directoryNumber b ≡ 0 → Cpd.headerLen
 unfolding Cpd.directoryNumber
 entries-there b e =
     let u = unmet (ltb (length b) 20) 15 _ refl e in
-    let v = unmet (not (Cpd.marked b && leb 20 (Cpd.headerLength b))) 18 _ refl (u .1) in
+    let v = unmet (not (Cpd.hasMarker b && leb 20 (Cpd.headerLength b))) 18 _ refl (u .1) in
     let w = unmet (ltb (length b) (Cpd.headerLength b + 24 * Cpd.count b)) 19 0 refl (v .1) in
     ltb-false (length b) (Cpd.headerLength b + 24 * Cpd.count b) (w .0)
 
@@ -147,7 +147,7 @@ pub huc-lies : (b : List ℕ) (which : Component) → Lies (length b) (hucPlace 
 unfolding hucPlace
 huc-lies b which =
     let p : Span = Cpd.place b hucName in
-    let q : Span = Css.laid which (Css.sizes (hucBlob b)) in
+    let q : Span = Css.spanOf which (Css.sizes (hucBlob b)) in
     let outside : Lies (length b) p = cpd-lies b hucName in
     either (Lies (length b)) (eqb (Cpd.number b hucName) 0 && Css.shown which (hucBlob b)) _ _
     (λ e.

@@ -12,14 +12,14 @@ use Rattle.firmware.specs.declared.css.Component.{Component}
 use Rattle.firmware.specs.declared.css.Component.the-variants.{Ucode, Rsa, Modulus, Exponent}
 
 -- a component of an image that is refused
-not-shown : (b : List ℕ) (which : Component) → Css.accepted b ≡ false → Css.shown which b ≡ false
+not-shown : (b : List ℕ) (which : Component) → Css.isImage b ≡ false → Css.shown which b ≡ false
 unfolding Css.shown
 not-shown b Ucode e = e
 not-shown b Rsa e = e
 not-shown b Modulus e = rw e
 not-shown b Exponent e = rw e
 
-pub image-nowhere : (b : List ℕ) (which : Component) → Css.accepted b ≡ false → Css.located which b ≡ placed (Css.number b) false nowhere
+pub image-nowhere : (b : List ℕ) (which : Component) → Css.isImage b ≡ false → Css.located which b ≡ placed (Css.number b) false nowhere
 unfolding Css.place Css.truncated
 image-nowhere b which e = rw (not-shown b which e, e)
 
@@ -47,6 +47,6 @@ huc-nowhere b which e = go (eqb (Cpd.number b hucName) 0) refl
   where
     go : (t : Bool) → eqb (Cpd.number b hucName) 0 ≡ t → hucLocated which b ≡ placed (hucNumber b) false nowhere
     go true q =
-        let inner : Css.accepted (hucBlob b) ≡ false = rw q at e in
+        let inner : Css.isImage (hucBlob b) ≡ false = rw q at e in
         simp (q, inner, not-shown (hucBlob b) which inner)
     go false q = simp q

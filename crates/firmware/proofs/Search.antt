@@ -6,7 +6,7 @@ use native.Mathlib.Numerals.{add-one}
 use mathlib.Core.Logic.{⊎-elim}
 use native.Mathlib.Nat.{eq-or-lt-of-le}
 use native.Mathlib.Omega.{arith}
-use Rattle.firmware.specs.Cpd.{all, first}
+use Rattle.firmware.specs.Cpd.{all, firstFrom}
 use Rattle.firmware.proofs.Tests.{both, cases}
 use lib.Dec.{leb}
 use borrow.Author.Tests.{leb-true, leb-false}
@@ -41,30 +41,30 @@ unfolding all
 all-same p q zero h = refl
 all-same p q (suc n) h = rw (all-same p q n (λ j l. h j (omega arith)), h n (omega arith))
 
-pub first-same : (p q : ℕ → Bool) (i n : ℕ) → ((j : ℕ) → p j ≡ q j) → first p i n ≡ first q i n
-unfolding first
+pub first-same : (p q : ℕ → Bool) (i n : ℕ) → ((j : ℕ) → p j ≡ q j) → firstFrom p i n ≡ firstFrom q i n
+unfolding firstFrom
 first-same p q i zero h = refl
 first-same p q i (suc n) h = rw (h i, first-same p q (suc i) n h)
 
-first-step : (p : ℕ → Bool) (n i : ℕ) → i < n → first p i (n - i) ≡ cond (p i) i (first p (i + 1) (n - (i + 1)))
-unfolding first
+first-step : (p : ℕ → Bool) (n i : ℕ) → i < n → firstFrom p i (n - i) ≡ cond (p i) i (firstFrom p (i + 1) (n - (i + 1)))
+unfolding firstFrom
 first-step p n i h =
     let e : n - i ≡ suc (n - (i + 1)) = omega arith in
     rw (e, add-one i)
 
 -- a walk over n numbers that has come to i
 module _ (p : ℕ → Bool) (n : ℕ) where
-  pub begins : first p 0 n ≡ first p 0 (n - 0)
-  begins = ap (first p 0) (omega arith)
+  pub begins : firstFrom p 0 n ≡ firstFrom p 0 (n - 0)
+  begins = ap (firstFrom p 0) (omega arith)
 
-  pub passes : (i : ℕ) {x : ℕ} → i < n → p i ≡ false → x ≡ first p i (n - i) → x ≡ first p (i + 1) (n - (i + 1))
+  pub passes : (i : ℕ) {x : ℕ} → i < n → p i ≡ false → x ≡ firstFrom p i (n - i) → x ≡ firstFrom p (i + 1) (n - (i + 1))
   passes i h q e = e ∙ first-step p n i h ∙ rw q
 
-  pub finds : (i : ℕ) {x : ℕ} → i < n → p i ≡ true → x ≡ first p i (n - i) → i ≡ x
+  pub finds : (i : ℕ) {x : ℕ} → i < n → p i ≡ true → x ≡ firstFrom p i (n - i) → i ≡ x
   finds i h q e = sym (e ∙ first-step p n i h ∙ rw q)
 
-  pub ends : (i : ℕ) {x : ℕ} → n ≤ i → x ≡ first p i (n - i) → i ≡ x
-  unfolding first
+  pub ends : (i : ℕ) {x : ℕ} → n ≤ i → x ≡ firstFrom p i (n - i) → i ≡ x
+  unfolding firstFrom
   ends i h e = let z : n - i ≡ 0 = omega arith in sym (e ∙ rw z)
 
 -- a test that holds of each number holds of all
@@ -74,33 +74,33 @@ all-each p zero h = refl
 all-each p (suc n) h = rw (all-each p n (λ j l. h j (omega arith)), h n (omega arith))
 
 -- what a walk from i over n numbers comes to: none before it holds, and where it is no further than they go it holds
-pub first-unmet : (p : ℕ → Bool) (i n j : ℕ) → i ≤ j → j < first p i n → p j ≡ false
-unfolding first
+pub first-unmet : (p : ℕ → Bool) (i n j : ℕ) → i ≤ j → j < firstFrom p i n → p j ≡ false
+unfolding firstFrom
 first-unmet p i zero j h l = absurd (omega arith)
 first-unmet p i (suc n) j h l =
     cases (p i)
     (λ t. let g : j < i = rw t at l in absurd (omega arith))
     (λ t.
-    let g : j < first p (suc i) n = rw t at l in
+    let g : j < firstFrom p (suc i) n = rw t at l in
     ⊎-elim (λ q. rw (← q) t) (λ m. first-unmet p (suc i) n j m g) (eq-or-lt-of-le h))
 
-pub first-met : (p : ℕ → Bool) (i n : ℕ) → first p i n < i + n → p (first p i n) ≡ true
-unfolding first
+pub first-met : (p : ℕ → Bool) (i n : ℕ) → firstFrom p i n < i + n → p (firstFrom p i n) ≡ true
+unfolding firstFrom
 first-met p i zero l = absurd (omega arith)
 first-met p i (suc n) l =
     cases (p i)
     (λ t. rw t t)
     (λ t.
-    let g : first p (suc i) n < i + suc n = rw t at l in
+    let g : firstFrom p (suc i) n < i + suc n = rw t at l in
     rw t (first-met p (suc i) n (omega arith)))
 
 -- no number holds exactly where the walk comes to its end
-pub none-met : (p : ℕ → Bool) (n : ℕ) → all (λ j. not (p j)) n ≡ leb n (first p 0 n)
+pub none-met : (p : ℕ → Bool) (n : ℕ) → all (λ j. not (p j)) n ≡ leb n (firstFrom p 0 n)
 none-met p n =
-    cases (leb n (first p 0 n))
+    cases (leb n (firstFrom p 0 n))
     (λ t.
-    let g : n ≤ first p 0 n = leb-true n (first p 0 n) t in
+    let g : n ≤ firstFrom p 0 n = leb-true n (firstFrom p 0 n) t in
     all-each (λ j. not (p j)) n (λ j l. ap not (first-unmet p 0 n j (omega arith) (omega arith))) ∙ sym t)
     (λ t.
-    let g : first p 0 n < n = leb-false n (first p 0 n) t in
-    all-fails (λ j. not (p j)) n (first p 0 n) g (ap not (first-met p 0 n (omega arith))) ∙ sym t)
+    let g : firstFrom p 0 n < n = leb-false n (firstFrom p 0 n) t in
+    all-fails (λ j. not (p j)) n (firstFrom p 0 n) g (ap not (first-met p 0 n (omega arith))) ∙ sym t)

@@ -14,9 +14,9 @@ all p zero = true
 all p (suc n) = all p n && p n
 
 -- the first of the n numbers from i on of which p holds, or the number after them
-unfoldable pub first : (ℕ → Bool) → ℕ → ℕ → ℕ
-first p i zero = i
-first p i (suc n) = cond (p i) i (first p (suc i) n)
+unfoldable pub firstFrom : (ℕ → Bool) → ℕ → ℕ → ℕ
+firstFrom p i zero = i
+firstFrom p i (suc n) = cond (p i) i (firstFrom p (suc i) n)
 
 -- a name to seek has '1 to 12 bytes without a zero'
 abbrev pub nonzero : List ℕ → ℕ → Bool
@@ -26,8 +26,8 @@ unfoldable pub isName : List ℕ → Bool
 isName name = leb 1 (length name) && leb (length name) 12 && all (nonzero name) (length name)
 
 -- 'bytes 0 to 3 are 24 43 50 44 hex; entry count n is the dword at 4; header length H is the byte at 10'
-unfoldable pub marked : List ℕ → Bool
-marked b = eqb (getD b 0 0) 0x24 && eqb (getD b 1 0) 0x43 && eqb (getD b 2 0) 0x50 && eqb (getD b 3 0) 0x44
+unfoldable pub hasMarker : List ℕ → Bool
+hasMarker b = eqb (getD b 0 0) 0x24 && eqb (getD b 1 0) 0x43 && eqb (getD b 2 0) 0x50 && eqb (getD b 3 0) 0x44
 
 abbrev pub count : List ℕ → ℕ
 count b = dwordAt b 4
@@ -39,7 +39,7 @@ headerLength b = getD b 10 0
 unfoldable pub directoryNumber : List ℕ → ℕ
 directoryNumber b =
     cond (ltb (length b) 20) 15
-    (cond (not (marked b && leb 20 (headerLength b))) 18 (cond (ltb (length b) (headerLength b + 24 * count b)) 19 0))
+    (cond (not (hasMarker b && leb 20 (headerLength b))) 18 (cond (ltb (length b) (headerLength b + 24 * count b)) 19 0))
 
 -- 'Entries start at byte H': the byte where entry i starts
 abbrev pub entryStart : List ℕ → ℕ → ℕ
@@ -62,7 +62,7 @@ agrees b name at = all (λ j. eqb (getD b (at + j) 0) (getD name j 0)) 12
 
 -- 'The walk ends at the first entry whose twelve bytes agree.': its index, or n where there is none
 unfoldable pub firstEntry : List ℕ → List ℕ → ℕ
-firstEntry b name = first (λ i. agrees b name (entryStart b i)) 0 (count b)
+firstEntry b name = firstFrom (λ i. agrees b name (entryStart b i)) 0 (count b)
 
 -- ours, for what seeking a name and a list of all entries share: entry i, by the numbers of the directory's header, 20 where there is none, then 21 'entry's
 -- part lies beyond the blob'

@@ -9,7 +9,7 @@ use Rattle.firmware.specs.Bytes.{Span, span, nowhere, bytes, placed, the
 use Rattle.firmware.specs.Css
 use Rattle.firmware.specs.Cpd
 use Rattle.firmware.specs.declared.bytes.Located.{Located}
-use Rattle.firmware.specs.declared.css.Answer.{Answer}
+use Rattle.firmware.specs.declared.css.ImageAnswer.{ImageAnswer}
 use Rattle.firmware.specs.declared.css.Component.{Component}
 
 -- `HUCP.man` and `huc_fw`, in ASCII
@@ -37,7 +37,7 @@ hucNumber b = then (Cpd.number b hucName) (Css.number (hucBlob b))
 unfoldable pub hucTruncated : List ℕ → Bool
 hucTruncated b = eqb (Cpd.number b hucName) 0 && Css.truncated (hucBlob b)
 
-abbrev pub hucAnswer : List ℕ → Answer
+abbrev pub hucAnswer : List ℕ → ImageAnswer
 hucAnswer b = record { code = hucNumber b; truncated = hucTruncated b }
 
 -- a place in a part that starts at byte start, as a place in the directory's blob
@@ -48,7 +48,7 @@ within start p = span (start + p .from) (start + p .to)
 unfoldable pub hucPlace : Component → List ℕ → Span
 hucPlace which b =
     cond (eqb (Cpd.number b hucName) 0 && Css.shown which (hucBlob b))
-    (within (Cpd.place b hucName .from) (Css.laid which (Css.sizes (hucBlob b))))
+    (within (Cpd.place b hucName .from) (Css.spanOf which (Css.sizes (hucBlob b))))
     nowhere
 
 -- the whole judgement of the image of which that component is asked

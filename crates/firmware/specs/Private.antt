@@ -51,7 +51,7 @@ tableOf b = record {
 
 -- the first of count entries from byte start that has the name
 unfoldable pub walked : List ℕ → List ℕ → ℕ → ℕ → ℕ
-walked b name start count = Cpd.first (λ i. Cpd.agrees b name (start + 24 * i)) 0 count
+walked b name start count = Cpd.firstFrom (λ i. Cpd.agrees b name (start + 24 * i)) 0 count
 
 -- a location in a part that starts at byte at: one that is not shown starts at byte 0
 unfoldable pub outer : ℕ → Located → Located

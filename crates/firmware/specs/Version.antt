@@ -21,7 +21,7 @@ reading n version = record { number = n; version = cond (eqb n 0) version [] }
 
 -- 'version (major 23:16, minor 15:8, patch 7:0)', dword 16
 abbrev pub cssVersion : List ℕ → List ℕ
-cssVersion b = Css.dword b 16 / 2 ^ 16 % 2 ^ 8 ∷ Css.dword b 16 / 2 ^ 8 % 2 ^ 8 ∷ Css.dword b 16 % 2 ^ 8 ∷ []
+cssVersion b = Css.headerDword b 16 / 2 ^ 16 % 2 ^ 8 ∷ Css.headerDword b 16 / 2 ^ 8 % 2 ^ 8 ∷ Css.headerDword b 16 % 2 ^ 8 ∷ []
 
 -- 'Reading the version is refused by the same 15, 16 and 17.'
 unfoldable pub cssReading : List ℕ → Reading

@@ -28,9 +28,9 @@ pub(crate) struct Table {
 }
 
 // Whether the first four bytes are the marker $CPD.
-fn marked(blob: &[u8]) -> bool
+fn has_marker(blob: &[u8]) -> bool
     requires { ⌜ 20 ≤ length (now blob) ⌝ }
-    ensures { λ r. ⌜ r ≡ Cpd.marked (now (blob .entry)) ⌝ }
+    ensures { λ r. ⌜ r ≡ Cpd.hasMarker (now (blob .entry)) ⌝ }
 {
     (blob[0] == 0x24) & (blob[1] == 0x43) & (blob[2] == 0x50) & (blob[3] == 0x44)
 }
@@ -53,7 +53,7 @@ fn read_table(blob: &[u8]) -> Table
         return no_table(15);
     }
     let start = wide(blob[10]);
-    if !(marked(blob) & (20 <= start)) {
+    if !(has_marker(blob) & (20 <= start)) {
         return no_table(18);
     }
     let count = dword_at(blob, 4);
@@ -95,7 +95,7 @@ fn walk(blob: &[u8], start: usize, count: usize, key: [u8; 12]) -> usize
 }
 
 // Entry i of a judged directory: its offset and length are read once, and those are what is judged and handed out.
-fn entry(blob: &[u8], t: Table, i: usize) -> Located
+fn entry_located(blob: &[u8], t: Table, i: usize) -> Located
     requires { ⌜ t ≡ tableOf (now blob) ⌝ }
     ensures { λ r. ⌜ r ≡ Cpd.entryLocated (now (blob .entry)) i ⌝ }
 {
@@ -130,7 +130,7 @@ pub fn cpd_located(blob: &[u8], name: &[u8]) -> Located
     }
     let t = read_table(blob);
     let i = walk(blob, t.start, t.count, key);
-    entry(blob, t, i)
+    entry_located(blob, t, i)
 }
 
 // Entry i by its index, for a list of all entries: 20 where there is none. A name that two entries have finds the first of them only.
@@ -138,7 +138,7 @@ pub fn cpd_entry(blob: &[u8], i: usize) -> Located
     ensures { λ r. ⌜ r ≡ Cpd.entryLocated (now (blob .entry)) i ⌝ }
 {
     let t = read_table(blob);
-    entry(blob, t, i)
+    entry_located(blob, t, i)
 }
 
 // 0 or the number that refuses seeking that name.

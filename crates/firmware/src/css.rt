@@ -22,7 +22,7 @@ pub enum Component {
 }
 
 // What an image is answered: 0 or the number that refuses it, and whether it is accepted without its modulus and exponent.
-pub struct Answer {
+pub struct ImageAnswer {
     pub code: u32,
     pub truncated: bool,
 }
@@ -69,7 +69,7 @@ fn agree(z: Sizes) -> bool
 }
 
 // A component from byte `from` to byte `to` of an accepted image of n bytes, shown where the bytes that it needs are there.
-fn shown(n: usize, needed: usize, truncated: bool, from: usize, to: usize) -> Located
+fn component_located(n: usize, needed: usize, truncated: bool, from: usize, to: usize) -> Located
     requires { ⌜ from ≤ to ⌝ }
     ensures { λ r. ⌜ r ≡ placed 0 truncated (cond (leb needed n) (span from to) nowhere) ⌝ }
 {
@@ -120,14 +120,14 @@ fn judge(n: usize, z: Sizes, which: Component) -> Located
     let rank = rank(which);
     if rank < 2 {
         if rank < 1 {
-            return shown(n, modulus, truncated, 128, rsa);
+            return component_located(n, modulus, truncated, 128, rsa);
         }
-        return shown(n, modulus, truncated, rsa, modulus);
+        return component_located(n, modulus, truncated, rsa, modulus);
     }
     if rank < 3 {
-        return shown(n, end, truncated, modulus, exponent);
+        return component_located(n, end, truncated, modulus, exponent);
     }
-    shown(n, end, truncated, exponent, end)
+    component_located(n, end, truncated, exponent, end)
 }
 
 // The one judgement of an image: its answer, and where a component lies.
@@ -142,11 +142,11 @@ pub fn css_located(blob: &[u8], which: Component) -> Located
 }
 
 // Whether the blob is an image, by number, and whether that is truncated.
-pub fn css_answer(blob: &[u8]) -> Answer
+pub fn css_answer(blob: &[u8]) -> ImageAnswer
     ensures { λ r. ⌜ r ≡ Css.answer (now (blob .entry)) ⌝ }
 {
     let l = css_located(blob, Component::Ucode);
-    Answer {
+    ImageAnswer {
         code: l.code,
         truncated: l.truncated,
     }

@@ -8,8 +8,8 @@ ghost use Rattle.firmware.specs.Private.{outer};
 use crate::bytes::Located;
 use crate::bytes::part;
 use crate::cpd::cpd_located;
-use crate::css::Answer;
 use crate::css::Component;
+use crate::css::ImageAnswer;
 use crate::css::css_located;
 
 // A location in a part that starts at byte `at`, as one in the outer blob. A component that is shown starts past the image's header;
@@ -44,11 +44,11 @@ pub fn huc_located(blob: &[u8], which: Component) -> Located
 }
 
 // Whether the directory has such an image, by number, and whether that is truncated.
-pub fn huc_answer(blob: &[u8]) -> Answer
+pub fn huc_answer(blob: &[u8]) -> ImageAnswer
     ensures { λ r. ⌜ r ≡ hucAnswer (now (blob .entry)) ⌝ }
 {
     let l = huc_located(blob, Component::Ucode);
-    Answer {
+    ImageAnswer {
         code: l.code,
         truncated: l.truncated,
     }

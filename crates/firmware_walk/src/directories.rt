@@ -4,10 +4,10 @@ use crate::laying::front;
 use crate::laying::put;
 use crate::laying::put_directory;
 use crate::laying::put_entry;
-use crate::words::number;
-use crate::words::part;
-use crate::words::text;
-use crate::words::verdict;
+use crate::wording::number;
+use crate::wording::part;
+use crate::wording::text;
+use crate::wording::verdict;
 
 // Seeks a name in the first len bytes: what is answered, and where its part lies.
 pub(crate) fn seek(blob: &Blob, len: usize, name: &[u8]) {

@@ -3,11 +3,11 @@ use crate::laying::Blob;
 use crate::laying::Sizes;
 use crate::laying::front;
 use crate::laying::put_image;
-use crate::words::image_verdict;
-use crate::words::number;
-use crate::words::part;
-use crate::words::text;
-use crate::words::version;
+use crate::wording::image_verdict;
+use crate::wording::number;
+use crate::wording::part;
+use crate::wording::text;
+use crate::wording::version;
 use firmware::Component;
 
 // An image at a blob's start, with room behind it.

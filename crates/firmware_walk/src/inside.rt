@@ -6,12 +6,12 @@ use crate::laying::put_directory;
 use crate::laying::put_dword;
 use crate::laying::put_entry;
 use crate::laying::put_image;
-use crate::words::image_verdict;
-use crate::words::manifest;
-use crate::words::number;
-use crate::words::part;
-use crate::words::text;
-use crate::words::version;
+use crate::wording::image_verdict;
+use crate::wording::manifest;
+use crate::wording::number;
+use crate::wording::part;
+use crate::wording::text;
+use crate::wording::version;
 use firmware::Component;
 
 // A directory with a manifest of version 9.4.2.0 at byte 68 and an image at byte 112: uCode of 5 dwords, and 1 dword each for

@@ -4,9 +4,9 @@ mod images;
 mod inside;
 mod laying;
 mod names;
-mod words;
+mod wording;
 
-use words::text;
+use wording::text;
 
 // The scenes, each on blobs of its own.
 fn main() {

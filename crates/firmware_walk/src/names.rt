@@ -5,8 +5,8 @@ use crate::directories::two_entries;
 use crate::laying::Blob;
 use crate::laying::front;
 use crate::laying::put_entry;
-use crate::words::number;
-use crate::words::text;
+use crate::wording::number;
+use crate::wording::text;
 
 // Names that are there, that are not, and that two entries have.
 pub(crate) fn found_or_not() {

@@ -5,10 +5,10 @@ use crate::fields::header_length;
 use crate::inside;
 use crate::names::show;
 use crate::names::trimmed;
-use crate::words::number;
-use crate::words::part;
-use crate::words::shortage;
-use crate::words::text;
+use crate::wording::number;
+use crate::wording::part;
+use crate::wording::shortage;
+use crate::wording::text;
 
 // A file with the marker $CPD.
 pub(crate) fn report(blob: &[u8]) {

@@ -25,7 +25,7 @@ pub(crate) fn dword_at(blob: &[u8], at: usize) -> u32 {
 }
 
 // Whether the file starts with the marker $CPD.
-pub(crate) fn marked(blob: &[u8]) -> bool {
+pub(crate) fn has_marker(blob: &[u8]) -> bool {
     dword_at(blob, 0) == 0x4450_4324
 }
 

@@ -1,10 +1,10 @@
 // CSS images: what is said of a file that is one, and why another is not.
 use crate::fields::dword_at;
-use crate::words::number;
-use crate::words::part;
-use crate::words::shortage;
-use crate::words::text;
-use crate::words::version;
+use crate::wording::number;
+use crate::wording::part;
+use crate::wording::shortage;
+use crate::wording::text;
+use crate::wording::version;
 use firmware::Component;
 
 // A file without the marker $CPD.

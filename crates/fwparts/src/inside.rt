@@ -2,11 +2,11 @@
 use crate::image::refusal;
 use crate::image::surplus;
 use crate::image::truncation;
-use crate::words::number;
-use crate::words::part;
-use crate::words::shortage;
-use crate::words::text;
-use crate::words::version;
+use crate::wording::number;
+use crate::wording::part;
+use crate::wording::shortage;
+use crate::wording::text;
+use crate::wording::version;
 use firmware::Component;
 use firmware::ManifestVersion;
 

@@ -5,11 +5,11 @@ mod fields;
 mod image;
 mod inside;
 mod names;
-mod words;
+mod wording;
 
-use words::complaint;
-use words::number;
-use words::text;
+use wording::complaint;
+use wording::number;
+use wording::text;
 
 // Room for the longest file that is read, 2 MiB.
 fn room() -> [u8; 2097152] {
@@ -41,7 +41,7 @@ fn report(path: &[u8], blob: &[u8]) {
     text(path);
     number(b": ", blob.len() as u64);
     text(b" bytes, ");
-    if fields::marked(blob) {
+    if fields::has_marker(blob) {
         directory::report(blob);
     } else {
         image::report(blob);

@@ -5,9 +5,9 @@ use mathlib.Core.List.{List, [], _∷_}
 use mathlib.Core.Option.{Option, none, some, Option·elim}
 use lib.Dec.{eqb, leb}
 use lib.ListN.{length}
-use Rattle.message.specs.Fields.{Entry}
+use Rattle.message.specs.Fields.{FieldValue}
 use Rattle.message.specs.Types.{typeOf, carried, ofType}
-use Rattle.message.specs.Words.{Answer, originNumber, originOf, packAnswer, unpackAnswer}
+use Rattle.message.specs.Packing.{Answer, originNumber, originOf, packAnswer, unpackAnswer}
 use Rattle.message.specs.declared.Body.{Body}
 use Rattle.message.specs.declared.Body.the-variants.{Request, Event, Busy, Retry, Failure, Success}
 use Rattle.message.specs.declared.Message.{Message}
@@ -49,7 +49,7 @@ packing origin fence num t first second =
     (notPacked 14))
 
 -- the number in field n of those that a body carries, counted from 0; 0 for a field that its type does not have
-unfoldable pub nth : ℕ → List Entry → ℕ
+unfoldable pub nth : ℕ → List FieldValue → ℕ
 nth n [] = 0
 nth n (x ∷ xs) = cond (eqb n 0) (x .1) (nth (n - 1) xs)
 

@@ -4,7 +4,7 @@ ghost use mathlib.Core.List.{[]};
 ghost use Rattle.channel.specs.Opening.{opening};
 ghost use Rattle.channel.specs.Send;
 ghost use Rattle.channel.specs.Receive;
-ghost use Rattle.side.specs.Words.{stateOf, outcome, openedWords};
+ghost use Rattle.side.specs.Words.{stateOf, inWords, openedWords};
 
 // What a receive answers: the number, and the length L of the message laid.
 #[repr(C)]
@@ -32,21 +32,21 @@ pub extern "C" fn guc_send_look(
     buf: &[u32],
     msg: &[u32],
 ) -> u32
-    ensures { λ r. ⌜ outcome r 0 (now (w .exit)) (now (desc .exit)) (now (buf .entry)) [] ≡ Send.look (stateOf (now (w .entry))) (now (msg .entry)) (now (desc .entry)) (now (buf .entry)) ⌝ }
+    ensures { λ r. ⌜ inWords r 0 (now (w .exit)) (now (desc .exit)) (now (buf .entry)) [] ≡ Send.look (stateOf (now (w .entry))) (now (msg .entry)) (now (desc .entry)) (now (buf .entry)) ⌝ }
 {
     side::send_look(w, desc, buf, msg)
 }
 
 #[no_mangle]
 pub extern "C" fn guc_send_store(w: &mut [u32; 260], desc: &[u32], buf: &mut [u32]) -> u32
-    ensures { λ r. ⌜ outcome r 0 (now (w .exit)) (now (desc .entry)) (now (buf .exit)) [] ≡ Send.move (stateOf (now (w .entry))) (now (desc .entry)) (now (buf .entry)) ⌝ }
+    ensures { λ r. ⌜ inWords r 0 (now (w .exit)) (now (desc .entry)) (now (buf .exit)) [] ≡ Send.move (stateOf (now (w .entry))) (now (desc .entry)) (now (buf .entry)) ⌝ }
 {
     side::send_store(w, desc, buf)
 }
 
 #[no_mangle]
 pub extern "C" fn guc_send_publish(w: &mut [u32; 260], desc: &mut [u32], buf: &[u32]) -> u32
-    ensures { λ r. ⌜ outcome r 0 (now (w .exit)) (now (desc .exit)) (now (buf .entry)) [] ≡ Send.publish (stateOf (now (w .entry))) (now (desc .entry)) (now (buf .entry)) ⌝ }
+    ensures { λ r. ⌜ inWords r 0 (now (w .exit)) (now (desc .exit)) (now (buf .entry)) [] ≡ Send.publish (stateOf (now (w .entry))) (now (desc .entry)) (now (buf .entry)) ⌝ }
 {
     side::send_publish(w, desc, buf)
 }
@@ -58,21 +58,21 @@ pub extern "C" fn guc_send(
     buf: &mut [u32],
     msg: &[u32],
 ) -> u32
-    ensures { λ r. ⌜ outcome r 0 (now (w .exit)) (now (desc .exit)) (now (buf .exit)) [] ≡ Send.whole (stateOf (now (w .entry))) (now (msg .entry)) (now (desc .entry)) (now (buf .entry)) ⌝ }
+    ensures { λ r. ⌜ inWords r 0 (now (w .exit)) (now (desc .exit)) (now (buf .exit)) [] ≡ Send.whole (stateOf (now (w .entry))) (now (msg .entry)) (now (desc .entry)) (now (buf .entry)) ⌝ }
 {
     side::send(w, desc, buf, msg)
 }
 
 #[no_mangle]
 pub extern "C" fn guc_receive_look(w: &mut [u32; 260], desc: &mut [u32], buf: &[u32]) -> u32
-    ensures { λ r. ⌜ outcome r 0 (now (w .exit)) (now (desc .exit)) (now (buf .entry)) [] ≡ Receive.look (stateOf (now (w .entry))) (now (desc .entry)) (now (buf .entry)) ⌝ }
+    ensures { λ r. ⌜ inWords r 0 (now (w .exit)) (now (desc .exit)) (now (buf .entry)) [] ≡ Receive.look (stateOf (now (w .entry))) (now (desc .entry)) (now (buf .entry)) ⌝ }
 {
     side::receive_look(w, desc, buf)
 }
 
 #[no_mangle]
 pub extern "C" fn guc_receive_copy(w: &mut [u32; 260], desc: &[u32], buf: &[u32]) -> u32
-    ensures { λ r. ⌜ outcome r 0 (now (w .exit)) (now (desc .entry)) (now (buf .entry)) [] ≡ Receive.move (stateOf (now (w .entry))) (now (desc .entry)) (now (buf .entry)) ⌝ }
+    ensures { λ r. ⌜ inWords r 0 (now (w .exit)) (now (desc .entry)) (now (buf .entry)) [] ≡ Receive.move (stateOf (now (w .entry))) (now (desc .entry)) (now (buf .entry)) ⌝ }
 {
     side::receive_copy(w, desc, buf)
 }
@@ -84,7 +84,7 @@ pub extern "C" fn guc_receive_publish(
     buf: &[u32],
     out: &mut [u32],
 ) -> Received
-    ensures { λ r. ⌜ outcome (r .code) (r .len) (now (w .exit)) (now (desc .exit)) (now (buf .entry)) (now (out .exit)) ≡ Receive.publish (stateOf (now (w .entry))) (now (out .entry)) (now (desc .entry)) (now (buf .entry)) ⌝ }
+    ensures { λ r. ⌜ inWords (r .code) (r .len) (now (w .exit)) (now (desc .exit)) (now (buf .entry)) (now (out .exit)) ≡ Receive.publish (stateOf (now (w .entry))) (now (out .entry)) (now (desc .entry)) (now (buf .entry)) ⌝ }
 {
     let laid = side::receive_publish(w, desc, buf, out);
     Received {
@@ -100,7 +100,7 @@ pub extern "C" fn guc_receive(
     buf: &[u32],
     out: &mut [u32],
 ) -> Received
-    ensures { λ r. ⌜ outcome (r .code) (r .len) (now (w .exit)) (now (desc .exit)) (now (buf .entry)) (now (out .exit)) ≡ Receive.whole (stateOf (now (w .entry))) (now (out .entry)) (now (desc .entry)) (now (buf .entry)) ⌝ }
+    ensures { λ r. ⌜ inWords (r .code) (r .len) (now (w .exit)) (now (desc .exit)) (now (buf .entry)) (now (out .exit)) ≡ Receive.whole (stateOf (now (w .entry))) (now (out .entry)) (now (desc .entry)) (now (buf .entry)) ⌝ }
 {
     let laid = side::receive(w, desc, buf, out);
     Received {

@@ -7,8 +7,8 @@ ghost use Rattle.firmware.specs.Bytes.{bytes, span};
 ghost use Rattle.firmware.specs.Css;
 ghost use Rattle.firmware.specs.Inside.{hucNumber, hucTruncated};
 ghost use Rattle.guc.specs.Parts.{imageBy, componentOf, ofWhich, cssPart, hucPart, cpdPart, copied, copiedBy, cssCopy, hucCopy, cpdCopy, flag, partBy};
-use firmware::Answer;
 use firmware::Component;
+use firmware::ImageAnswer;
 use firmware::Located;
 
 // 0 or the number that refuses an image, and whether it is truncated, 0 or 1.
@@ -60,7 +60,7 @@ fn flag(t: bool) -> u32
     if t { 1 } else { 0 }
 }
 
-fn as_image(a: Answer) -> Image
+fn as_image(a: ImageAnswer) -> Image
     ensures { λ r. ⌜ r ≡ imageBy (a .code) (a .truncated) ⌝ }
 {
     Image {

@@ -11,10 +11,10 @@ use native.Mathlib.Nat.{mod-eq-of-lt, zero-mul, zero-add}
 use lib.ListN.{length, getD}
 use lib.Dec.{eqb, leb, ltb}
 use borrow.Author.Tests.{eqb-true, eqb-false, leb-true, eq-eqb, le-leb}
-use Rattle.message.specs.Fields.{Field, fence, format, reserved, numDwords, origin, fieldOf, Entry, fit, dword, holds}
+use Rattle.message.specs.Fields.{Field, fence, format, reserved, numDwords, origin, fieldOf, FieldValue, fit, dword, holds}
 use Rattle.message.specs.Types.{bodyFields, bodyOf, known, someBody}
 use Rattle.message.specs.Header.{totalLength, isMessage}
-use Rattle.message.specs.Words.{originNumber, originOf, decoded, unpack, headerFields, hxgFields, pack}
+use Rattle.message.specs.Packing.{originNumber, originOf, decoded, unpack, headerFields, hxgFields, pack}
 use Rattle.message.specs.Agreement.{Agreement}
 use Rattle.message.specs.declared.Origin.{Origin}
 use Rattle.message.specs.declared.Origin.the-variants.{Host, Guc}
@@ -24,7 +24,7 @@ use Rattle.message.proofs.Tests.{and-l, and-r, and-i}
 use Rattle.message.proofs.Tiling.{tiles, holds-first, holds-rest, holds-fit, dword-lt, dword-holds, dword-again}
 use Rattle.message.proofs.Types.{known-is, known-body, body-known, body-holds, holds-body}
 use Rattle.message.proofs.Formed.{WellFormed, message-length, message-well, message-i}
-use Rattle.message.proofs.Words.{header-tiles, hxg-tiles, unpack-some, unpack-none}
+use Rattle.message.proofs.PackLaws.{header-tiles, hxg-tiles, unpack-some, unpack-none}
 
 -- the origin's bit, there and back
 origin-back : (o : Origin) → originOf (originNumber o) ≡ o
@@ -119,12 +119,12 @@ unfolding pack
 packs-i m l e f = simp (le-leb _ _ l, e, f)
 
 -- a dword of fields that fit holds them
-made-holds : (es : List Entry) (w : ℕ) → tiles 32 es ≡ true → fit es ≡ true → dword es ≡ w → holds es w ≡ true
+made-holds : (es : List FieldValue) (w : ℕ) → tiles 32 es ≡ true → fit es ≡ true → dword es ≡ w → holds es w ≡ true
 made-holds es w t f e =
     subst (λ (x : ℕ). holds es x ≡ true) ((zero-add (dword es)) ∙ e) (rw (zero-mul (2 ^ 32)) at (dword-holds 32 0 es t f))
 
 -- and one that holds its fields is made of them
-made-again : (es : List Entry) (w : ℕ) → w < 2 ^ 32 → tiles 32 es ≡ true → holds es w ≡ true → dword es ≡ w
+made-again : (es : List FieldValue) (w : ℕ) → w < 2 ^ 32 → tiles 32 es ≡ true → holds es w ≡ true → dword es ≡ w
 made-again es w l t h = dword-again 32 w es t h ∙ mod-eq-of-lt l
 
 there : (m : Message) (h w : ℕ) (rest : List ℕ) → pack m ≡ some (h, w) → length rest + 1 ≡ m .«num_dwords» → unpack (h ∷ w ∷ rest) ≡ some m

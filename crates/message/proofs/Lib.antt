@@ -2,5 +2,5 @@ pub mod Tests
 pub mod Tiling
 pub mod Types
 pub mod Formed
-pub mod Words
+pub mod PackLaws
 pub mod Agreement

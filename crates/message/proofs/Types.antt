@@ -7,7 +7,7 @@ use mathlib.Core.Option.{Option, none, some}
 use native.Mathlib.Omega.{arith}
 use lib.Dec.{eqb}
 use borrow.Author.Tests.{ne-eqb, eq-eqb, eqb-true}
-use Rattle.message.specs.Fields.{Field, requestData, requestAction, eventData, eventAction, busyCounter, retryReason, failureHint, failureError, successData, type, fieldOf, Entry, holds}
+use Rattle.message.specs.Fields.{Field, requestData, requestAction, eventData, eventAction, busyCounter, retryReason, failureHint, failureError, successData, type, fieldOf, FieldValue, holds}
 use Rattle.message.specs.Types.{typeOf, carried, bodyFields, bodies, ofType, bodyOf, someBody, known}
 use Rattle.message.specs.declared.Body.{Body}
 use Rattle.message.specs.declared.Body.the-variants.{Request, Event, Busy, Retry, Failure, Success}
@@ -84,7 +84,7 @@ unfolding bodyOf
 body-holds word b e = picked-holds word (bodies word) b (bodies-read word) e
 
 -- and the other way round: a dword that holds a body's type and fields holds that body
-module _ (word t : ℕ) (f : Field) (x : ℕ) (es : List Entry) (h : holds ((type, t) ∷ (f, x) ∷ es) word ≡ true) where
+module _ (word t : ℕ) (f : Field) (x : ℕ) (es : List FieldValue) (h : holds ((type, t) ∷ (f, x) ∷ es) word ≡ true) where
   is-type : fieldOf type word ≡ t
   is-type = holds-first (type, t) ((f, x) ∷ es) word h
 

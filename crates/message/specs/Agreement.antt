@@ -9,7 +9,7 @@ use lib.ListN.{length, getD}
 use Rattle.message.specs.Fields.{type, fieldOf, holds}
 use Rattle.message.specs.Types.{known}
 use Rattle.message.specs.Header.{isMessage}
-use Rattle.message.specs.Words.{unpack, pack, headerFields, hxgFields}
+use Rattle.message.specs.Packing.{unpack, pack, headerFields, hxgFields}
 use Rattle.message.specs.declared.Message.{Message}
 
 pub record Agreement : Type 0 where

@@ -31,58 +31,58 @@ abbrev pub bits : ℕ → ℕ → Bits
 bits h l = record { high = h; low = l }
 
 -- THE TABLE: name, high bit, low bit.
-abbrev pub place : Field → Bits
+abbrev pub bitsOf : Field → Bits
 -- 'CTB header: fence 31:16, format 15:12, reserved 11:8, NUM_DWORDS 7:0.'
-place fence = bits 31 16
-place format = bits 15 12
-place reserved = bits 11 8
-place numDwords = bits 7 0
+bitsOf fence = bits 31 16
+bitsOf format = bits 15 12
+bitsOf reserved = bits 11 8
+bitsOf numDwords = bits 7 0
 -- 'HXG dword 0: origin bit 31 (0 host, 1 GuC); type 30:28; the rest by type'
-place origin = bits 31 31
-place type = bits 30 28
+bitsOf origin = bits 31 31
+bitsOf type = bits 30 28
 -- request: 'data 27:16, action 15:0'
-place requestData = bits 27 16
-place requestAction = bits 15 0
+bitsOf requestData = bits 27 16
+bitsOf requestAction = bits 15 0
 -- event: 'data 27:16, action 15:0'
-place eventData = bits 27 16
-place eventAction = bits 15 0
+bitsOf eventData = bits 27 16
+bitsOf eventAction = bits 15 0
 -- busy: 'counter 27:0'
-place busyCounter = bits 27 0
+bitsOf busyCounter = bits 27 0
 -- retry: 'reason 27:0'
-place retryReason = bits 27 0
+bitsOf retryReason = bits 27 0
 -- failure: 'hint 27:16, error 15:0'
-place failureHint = bits 27 16
-place failureError = bits 15 0
+bitsOf failureHint = bits 27 16
+bitsOf failureError = bits 15 0
 -- success: 'data 27:0'
-place successData = bits 27 0
+bitsOf successData = bits 27 0
 
 -- what 1 in a field counts in the dword
 abbrev pub weight : Field → ℕ
-weight f = 2 ^ (place f .low)
+weight f = 2 ^ (bitsOf f .low)
 
 -- the numbers below it fit the field
 abbrev pub limit : Field → ℕ
-limit f = 2 ^ (place f .high + 1 - place f .low)
+limit f = 2 ^ (bitsOf f .high + 1 - bitsOf f .low)
 
 -- the number that a dword holds in a field
 abbrev pub fieldOf : Field → ℕ → ℕ
 fieldOf f w = w / weight f % limit f
 
 -- a field and the number that it is to hold
-abbrev pub Entry : Type 0
-Entry = Field × ℕ
+abbrev pub FieldValue : Type 0
+FieldValue = Field × ℕ
 
 -- each number fits its field
-unfoldable pub fit : List Entry → Bool
+unfoldable pub fit : List FieldValue → Bool
 fit [] = true
 fit (e ∷ es) = ltb (e .1) (limit (e .0)) && fit es
 
 -- the dword made of the fields: each number at its place
-unfoldable pub dword : List Entry → ℕ
+unfoldable pub dword : List FieldValue → ℕ
 dword [] = 0
 dword (e ∷ es) = e .1 * weight (e .0) + dword es
 
 -- a dword holds each of the numbers in its field
-unfoldable pub holds : List Entry → ℕ → Bool
+unfoldable pub holds : List FieldValue → ℕ → Bool
 holds [] w = true
 holds (e ∷ es) w = eqb (fieldOf (e .0) w) (e .1) && holds es w

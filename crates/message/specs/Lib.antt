@@ -1,5 +1,5 @@
 pub mod Fields
 pub mod Types
 pub mod Header
-pub mod Words
+pub mod Packing
 pub mod Agreement

@@ -4,7 +4,7 @@ use mathlib.Core.Bool.{Bool, true, false, cond}
 use mathlib.Core.List.{List, [], _∷_}
 use mathlib.Core.Option.{Option, none, some}
 use lib.Dec.{eqb}
-use Rattle.message.specs.Fields.{Field, requestData, requestAction, eventData, eventAction, busyCounter, retryReason, failureHint, failureError, successData, type, fieldOf, Entry}
+use Rattle.message.specs.Fields.{Field, requestData, requestAction, eventData, eventAction, busyCounter, retryReason, failureHint, failureError, successData, type, fieldOf, FieldValue}
 use Rattle.message.specs.declared.Body.{Body}
 use Rattle.message.specs.declared.Body.the-variants.{Request, Event, Busy, Retry, Failure, Success}
 
@@ -18,7 +18,7 @@ typeOf (Failure h e) = 6
 typeOf (Success d) = 7
 
 -- the column 'Fields': those of each type, with the number that the body carries in each
-unfoldable pub carried : Body → List Entry
+unfoldable pub carried : Body → List FieldValue
 carried (Request d a) = (requestData, d) ∷ (requestAction, a) ∷ []
 carried (Event d a) = (eventData, d) ∷ (eventAction, a) ∷ []
 carried (Busy c) = (busyCounter, c) ∷ []
@@ -27,7 +27,7 @@ carried (Failure h e) = (failureHint, h) ∷ (failureError, e) ∷ []
 carried (Success d) = (successData, d) ∷ []
 
 -- both: what a dword of the body's type holds below its origin
-unfoldable pub bodyFields : Body → List Entry
+unfoldable pub bodyFields : Body → List FieldValue
 bodyFields b = (type, typeOf b) ∷ carried b
 
 -- the body of each known type, its fields read from an HXG dword 0

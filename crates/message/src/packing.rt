@@ -5,7 +5,7 @@ ghost use Prim.Native.Nat.{_+_, _*_, _<_};
 ghost use lib.Dec.{ltb};
 ghost use Rattle.message.specs.Fields.{fit, dword};
 ghost use Rattle.message.specs.Types.{bodyFields};
-ghost use Rattle.message.specs.Words.{originNumber, packAnswer, ofPacked};
+ghost use Rattle.message.specs.Packing.{originNumber, packAnswer, ofPacked};
 use crate::Body;
 use crate::Message;
 use crate::Origin;

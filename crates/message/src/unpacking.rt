@@ -4,7 +4,7 @@ ghost use mathlib.Core.Bool.{true};
 ghost use mathlib.Core.Option.{some};
 ghost use Rattle.message.specs.Fields.{fieldOf, origin};
 ghost use Rattle.message.specs.Types.{known, bodyOf};
-ghost use Rattle.message.specs.Words.{originOf, unpackAnswer, ofUnpacked};
+ghost use Rattle.message.specs.Packing.{originOf, unpackAnswer, ofUnpacked};
 use crate::Body;
 use crate::Message;
 use crate::Origin;

@@ -12,7 +12,7 @@ use Rattle.message.proofs.Tests.{cases}
 use Rattle.message.proofs.Agreement.{agreement}
 use Rattle.message.specs.Fields.{dword, fit}
 use Rattle.message.specs.Header.{isMessage}
-use Rattle.message.specs.Words.{Answer, headerFields, hxgFields, pack, packAnswer, refusing, unpack, unpackAnswer}
+use Rattle.message.specs.Packing.{Answer, headerFields, hxgFields, pack, packAnswer, refusing, unpack, unpackAnswer}
 use Rattle.message.specs.declared.Message.{Message}
 use Rattle.firmware.specs.Bytes.{nowhere, placed, then}
 use Rattle.firmware.specs.Css
@@ -21,7 +21,8 @@ use Rattle.firmware.specs.Inside.{hucBlob, hucName, hucNumber, manifestName, ma
 use Rattle.firmware.specs.Version.{Reading, reading}
 use Rattle.firmware.specs.declared.bytes.Located.{Located}
 use Rattle.firmware.proofs.Search.{none-met}
-use Rattle.refusals.specs.Table.{Row, directoryRows, entryRows, imageRows, manifestRows, row-4, row-14-fields, row-20, row-20-index, row-21, seekRows}
+use Rattle.refusals.specs.Order.{Row, row}
+use Rattle.refusals.specs.Table.{directoryRows, entryRows, imageRows, manifestRows, row-4, row-14-fields, row-20, row-20-index, row-21, seekRows}
 use Rattle.refusals.specs.Refusals.{LocationRefused}
 use Rattle.refusals.proofs.Lowest.{first-behind, firstJudged, firstOf, rising}
 use Rattle.refusals.proofs.Rows.{below, either-fails, not-not}
@@ -78,8 +79,8 @@ image-number b = refl
 pub directory-number : (b : List ℕ) → Cpd.directoryNumber b ≡ firstOf (directoryRows b)
 unfolding Cpd.directoryNumber firstOf
 directory-number b =
-    let same : (not (Cpd.marked b) || ltb (Cpd.headerLength b) 20) ≡ not (Cpd.marked b && leb 20 (Cpd.headerLength b))
-    = rw (below (Cpd.headerLength b) 20) (either-fails (Cpd.marked b) (leb 20 (Cpd.headerLength b))) in
+    let same : (not (Cpd.hasMarker b) || ltb (Cpd.headerLength b) 20) ≡ not (Cpd.hasMarker b && leb 20 (Cpd.headerLength b))
+    = rw (below (Cpd.headerLength b) 20) (either-fails (Cpd.hasMarker b) (leb 20 (Cpd.headerLength b))) in
     rw same
 
 -- behind the directory's own numbers
@@ -87,16 +88,24 @@ behind : (b : List ℕ) (number : ℕ) (more : List Row) → number ≡ firstOf 
 unfolding rising
 behind b number more e = rw (directory-number b, e) (sym (first-behind 0 (directoryRows b) more refl))
 
+-- 20, then 21 where there is an entry
+entry-rows : (t u x : Bool) → u ≡ not t → cond t 20 (cond x 21 0) ≡ firstOf (row 20 t ∷ row 21 (u && x) ∷ [])
+unfolding firstOf
+entry-rows true u x e = refl
+entry-rows false u x e = rw e refl
+
 pub entry-number : (b : List ℕ) (i : ℕ) → Cpd.entryNumber b i ≡ firstOf (entryRows b i)
-unfolding Cpd.entryNumber firstOf
-entry-number b i = behind b _ (row-20-index b i ∷ row-21 b i ∷ []) refl
+unfolding Cpd.entryNumber
+entry-number b i =
+    behind b _ (row-20-index b i ∷ row-21 b i ∷ []) (entry-rows (leb (Cpd.count b) i) (ltb i (Cpd.count b)) _ (below i (Cpd.count b)))
 
 pub seek-number : (b name : List ℕ) → Cpd.number b name ≡ firstOf (seekRows b name)
 unfolding Cpd.number Cpd.entryNumber Cpd.firstEntry firstOf
 seek-number b name =
     let i : ℕ = Cpd.firstEntry b name in
     let none-named = none-met (λ j. Cpd.agrees b name (Cpd.entryStart b j)) (Cpd.count b) in
-    ap (cond (not (Cpd.isName name)) 14) (behind b _ (row-20 b name ∷ row-21 b i ∷ []) (rw none-named refl))
+    ap (cond (not (Cpd.isName name)) 14)
+    (behind b _ (row-20 b name ∷ row-21 b i ∷ []) (rw none-named (entry-rows (leb (Cpd.count b) i) (ltb i (Cpd.count b)) _ (below i (Cpd.count b)))))
 
 -- a number, or 0 where it is 0
 zero-or : (n : ℕ) → n ≡ cond (eqb n 0) 0 n

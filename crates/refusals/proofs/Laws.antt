@@ -12,7 +12,7 @@ use Rattle.ring.specs.Ring.{HEAD, STATUS, head, tail, status}
 use Rattle.ring.specs.Numbers.{need}
 use Rattle.ring.proofs.Chains.{true-false}
 use Rattle.message.proofs.Tests.{cases}
-use Rattle.refusals.specs.Leaves.{leaves, reserved, unreserved}
+use Rattle.refusals.specs.Left.{descriptorLeft, reserved, unreserved}
 
 -- a number is one of a list
 unfoldable pub oneOf : List ℕ → ℕ → Bool
@@ -80,8 +80,8 @@ mild-cond true f g m n = m
 mild-cond false f g m n = n
 
 -- what a refusal leaves is one
-pub mild-leaves : (c past : ℕ) → Mild (leaves c past)
-unfolding leaves
+pub mild-leaves : (c past : ℕ) → Mild (descriptorLeft c past)
+unfolding descriptorLeft
 mild-leaves c past =
     mild-cond (eqb c 7) _ _ (mild-set STATUS _ (omega arith))
     (mild-cond (eqb c 8) _ _ (mild-set STATUS _ (omega arith))

@@ -9,8 +9,7 @@ use lib.Dec.{eqb, ltb}
 use borrow.Author.Tests.{ltb-true, ltb-false, ne-eqb}
 use Rattle.message.proofs.Tests.{and-l, and-r, cases}
 use Rattle.ring.proofs.Chains.{true-false}
-use Rattle.refusals.specs.Table.{Row}
-use Rattle.refusals.specs.Refusals.{AllPass, Answered, Applies, Lowest, NoneApplies}
+use Rattle.refusals.specs.Order.{AllPass, Answered, Applies, Lowest, NoneApplies, Row}
 
 -- the number of the first row that is given, or 0
 unfoldable pub firstOf : List Row → ℕ

@@ -8,15 +8,16 @@ use lib.ListN.{length, getD, take, drop, set}
 use lib.Dec.{eqb}
 use borrow.Author.Tests.{eqb-true, ne-eqb}
 use Rattle.ring.specs.AtOnce.{lengthAt, messageAt, receiveBy, receiveNumber}
-use Rattle.ring.specs.Numbers.{entry, found, marked, receiveDecision, receiveFound, takeNumber}
+use Rattle.ring.specs.Numbers.{firstNeeds, lookNeeds, marked, receiveDecision, receiveLookNeeds, takeDecision}
 use Rattle.channel.specs.Opening.{openBy, openNumber, opening}
 use Rattle.ring.specs.Ring.{HEAD}
 use Rattle.channel.specs.State.{State, idle, idleAt}
 use Rattle.channel.specs.Receive
 use Rattle.message.proofs.Tests.{cases}
 use Rattle.channel.proofs.ReceiveAtOnce.{receive-at-once, receiveOutcome}
+use Rattle.channel.specs.Steps.{nextPlace, pastMessage}
 use Rattle.channel.specs.Operations.{receiveLook, receiveMove, receivePublish, receiveWhole}
-use Rattle.refusals.specs.Leaves.{OpeningRefused, stateLeft, leaves}
+use Rattle.refusals.specs.Left.{OpeningRefused, stateLeft, descriptorLeft}
 use Rattle.refusals.proofs.Laws.{Alike, goingOn, lookingReceive, mild-none, mild-set, not-one, one-need, oneOf, publishingReceive, wholeReceiving}
 use Rattle.refusals.proofs.Says.{Accepts, Says, refusal, says}
 use Rattle.refusals.proofs.Sends.{one-on}
@@ -25,7 +26,7 @@ use Rattle.refusals.proofs.Sends.{one-on}
 
 module _ (s : State) (b : List ℕ) where
   look-one : (d : List ℕ) → oneOf lookingReceive (Receive.lookNumber s d b) ≡ true
-  unfolding oneOf receiveDecision entry receiveFound found
+  unfolding oneOf receiveDecision firstNeeds receiveLookNeeds lookNeeds
   look-one d =
       let next = one-need lookingReceive in
       next _ 1 _ refl (next _ 2 _ refl (next _ 3 _ refl (next _ 6 _ refl (next _ 7 _ refl (next _ 8 _ refl (next _ 9 _ refl (next _ 11 _ refl refl)))))))
@@ -35,7 +36,7 @@ module _ (s : State) (b : List ℕ) where
   look-alike d e a = rw (a .size, a .heads, a .tails, a .statuses)
 
   look-refuses : (c : ℕ) (d : List ℕ) → eqb c 0 ≡ false → oneOf lookingReceive c ≡ true → Receive.lookBy c s d b ≡ refusal c receiveLook s b d
-  unfolding Receive.lookBy marked leaves stateLeft oneOf
+  unfolding Receive.lookBy marked descriptorLeft stateLeft oneOf
   look-refuses c d z p = rw (z, not-one lookingReceive c 13 p refl)
 
   look-accepts : Accepts (λ (d : List ℕ). Receive.lookBy 0 s d b)
@@ -65,7 +66,7 @@ module _ (s : State) (b : List ℕ) where
   move-alike d e a = rw (a .size)
 
   move-refuses : (c : ℕ) (d : List ℕ) → eqb c 0 ≡ false → oneOf goingOn c ≡ true → Receive.moveBy c s d b ≡ refusal c receiveMove s b d
-  unfolding Receive.moveBy leaves stateLeft oneOf
+  unfolding Receive.moveBy descriptorLeft stateLeft oneOf
   move-refuses c d z p =
       rw (z, not-one goingOn c 7 p refl, not-one goingOn c 8 p refl, not-one goingOn c 9 p refl, not-one goingOn c 13 p refl)
 
@@ -74,7 +75,7 @@ module _ (s : State) (b : List ℕ) where
   move-accepts =
       record {
         len = 0;
-        next = Receive.moved s (getD b (Receive.place s b) 0);
+        next = Receive.afterMove s (getD b (nextPlace s b) 0);
         change = λ d. d;
         buf = b;
         out = [];
@@ -91,7 +92,7 @@ module _ (s : State) (b : List ℕ) where
 
 module _ (s : State) (o b : List ℕ) where
   publish-one : (d : List ℕ) → oneOf publishingReceive (Receive.publishNumber s o d b) ≡ true
-  unfolding oneOf Receive.publishNumberOf entry
+  unfolding oneOf Receive.publishNumberOf firstNeeds
   publish-one d =
       let next = one-need publishingReceive in
       next _ 1 _ refl (next _ 2 _ refl (next _ 3 _ refl (next _ 5 _ refl (next _ 12 _ refl (next _ 13 _ refl refl)))))
@@ -100,13 +101,13 @@ module _ (s : State) (o b : List ℕ) where
   publish-alike d e a = rw (a .size)
 
   publish-13 : (d : List ℕ) → Receive.publishBy 13 s o d b ≡ refusal 13 (receivePublish o) s b d
-  unfolding Receive.publishBy leaves stateLeft
+  unfolding Receive.publishBy descriptorLeft stateLeft
   publish-13 d = refl
 
   publish-other :
       (c : ℕ) (d : List ℕ) → eqb c 0 ≡ false → oneOf publishingReceive c ≡ true → eqb c 13 ≡ false
       → Receive.publishBy c s o d b ≡ refusal c (receivePublish o) s b d
-  unfolding Receive.publishBy leaves stateLeft oneOf
+  unfolding Receive.publishBy descriptorLeft stateLeft oneOf
   publish-other c d z p t =
       rw (z, t, not-one publishingReceive c 7 p refl, not-one publishingReceive c 8 p refl, not-one publishingReceive c 9 p refl)
 
@@ -125,11 +126,11 @@ module _ (s : State) (o b : List ℕ) where
   publish-accepts =
       record {
         len = s .len;
-        next = idleAt (s .n) (Receive.past s b);
-        change = λ d. set d HEAD (Receive.past s b);
+        next = idleAt (s .n) (pastMessage s b);
+        change = λ d. set d HEAD (pastMessage s b);
         buf = b;
         out = take (s .len) (s .copy) ++ drop (s .len) o;
-        is-mild = mild-set HEAD (Receive.past s b) (omega arith);
+        is-mild = mild-set HEAD (pastMessage s b) (omega arith);
         same = λ d. refl;
       }
 
@@ -140,10 +141,10 @@ module _ (s : State) (o b : List ℕ) where
 
   -- the number of a whole receive at once, and its outcome by it
   abbrev pub whole-number : List ℕ → ℕ
-  whole-number d = receiveNumber (takeNumber (idle (length b) s) (s .own) (length o) d (length b) (getD b (s .own) 0)) (s .own) b
+  whole-number d = receiveNumber (takeDecision (idle (length b) s) (s .own) (length o) d (length b) (getD b (s .own) 0)) (s .own) b
 
-  take-one : (d : List ℕ) → oneOf wholeReceiving (takeNumber (idle (length b) s) (s .own) (length o) d (length b) (getD b (s .own) 0)) ≡ true
-  unfolding oneOf takeNumber entry receiveFound found
+  take-one : (d : List ℕ) → oneOf wholeReceiving (takeDecision (idle (length b) s) (s .own) (length o) d (length b) (getD b (s .own) 0)) ≡ true
+  unfolding oneOf takeDecision firstNeeds receiveLookNeeds lookNeeds
   take-one d =
       let next = one-need wholeReceiving in
       next _ 1 _ refl (next _ 2 _ refl (next _ 3 _ refl (next _ 5 _ refl (next _ 6 _ refl (next _ 7 _ refl (next _ 8 _ refl (next _ 9 _ refl (next _ 11 _ refl refl))))))))
@@ -158,17 +159,17 @@ module _ (s : State) (o b : List ℕ) where
   whole-one d = then-13 _ (take-one d)
 
   whole-alike : (d e : List ℕ) → Alike d e → whole-number d ≡ whole-number e
-  unfolding whole-number takeNumber
+  unfolding whole-number takeDecision
   whole-alike d e a = rw (a .size, a .heads, a .tails, a .statuses)
 
   whole-13 : (d : List ℕ) → receiveOutcome s (receiveBy 13 (s .own) o d b) ≡ refusal 13 (receiveWhole o) s b d
-  unfolding receiveBy leaves stateLeft
+  unfolding receiveBy descriptorLeft stateLeft
   whole-13 d = refl
 
   whole-other :
       (c : ℕ) (d : List ℕ) → eqb c 0 ≡ false → eqb c 13 ≡ false
       → receiveOutcome s (receiveBy c (s .own) o d b) ≡ refusal c (receiveWhole o) s b d
-  unfolding receiveBy marked leaves stateLeft
+  unfolding receiveBy marked descriptorLeft stateLeft
   whole-other c d z t = rw (z, t)
 
   whole-refuses :

@@ -9,7 +9,7 @@ use Rattle.channel.specs.State.{State}
 use Rattle.channel.specs.Outcome.{Outcome}
 use Rattle.channel.specs.Operations.{Op, gives}
 use Rattle.message.proofs.Tests.{cases}
-use Rattle.refusals.specs.Leaves.{OperationRefused, ReservedStay, behindIt, butReserved, leaves, output, reserved, stateLeft, unreserved}
+use Rattle.refusals.specs.Left.{OperationRefused, ReservedStay, offsetPast, butReserved, descriptorLeft, output, reserved, stateLeft, unreserved}
 use Rattle.refusals.proofs.Laws.{Alike, Mild, alike, mild-leaves, oneOf}
 
 -- what is to be shown of an operation that has this number
@@ -24,8 +24,8 @@ refusal c op s b d =
     record {
       code = c;
       len = 0;
-      next = stateLeft c (behindIt op s b) s;
-      desc = leaves c (behindIt op s b) d;
+      next = stateLeft c (offsetPast op s b) s;
+      desc = descriptorLeft c (offsetPast op s b) d;
       buf = b;
       out = output op;
     }
@@ -74,7 +74,7 @@ module _ (may : List ℕ) (op : Op) (s : State) (b : List ℕ) (number : List �
     stays d =
         cases (eqb (number d) 0)
         (λ t. ap (λ (x : Outcome). reserved (x .desc)) (accepted d (eqb-true _ 0 t) ∙ accepts .same d) ∙ accepts .is-mild .rest d)
-        (λ t. ap (λ (x : Outcome). reserved (x .desc)) (refused-by d t) ∙ mild-leaves (number d) (behindIt op s b) .rest d)
+        (λ t. ap (λ (x : Outcome). reserved (x .desc)) (refused-by d t) ∙ mild-leaves (number d) (offsetPast op s b) .rest d)
 
     -- an outcome's descriptor is read by its front
     but-by : (c k : ℕ) (n : State) (p q r w : List ℕ) → unreserved p ≡ unreserved q
@@ -94,8 +94,8 @@ module _ (may : List ℕ) (op : Op) (s : State) (b : List ℕ) (number : List �
         let y : eqb (number d) 0 ≡ false = ap (λ (x : ℕ). eqb x 0) (heeds d e a) ∙ t in
         let p : gives op s d b ≡ refusal (number e) op s b d = refused-by d y ∙ ap (λ (x : ℕ). refusal x op s b d) (heeds d e a) in
         ap butReserved p
-        ∙ but-by (number e) 0 (stateLeft (number e) (behindIt op s b) s) (leaves (number e) (behindIt op s b) d) (leaves (number e) (behindIt op s b) e) b (output op)
-        (mild-leaves (number e) (behindIt op s b) .front d e (a .front))
+        ∙ but-by (number e) 0 (stateLeft (number e) (offsetPast op s b) s) (descriptorLeft (number e) (offsetPast op s b) d) (descriptorLeft (number e) (offsetPast op s b) e) b (output op)
+        (mild-leaves (number e) (offsetPast op s b) .front d e (a .front))
         ∙ sym (ap butReserved (refused-by e t)))
 
     pub says : Says op s b number

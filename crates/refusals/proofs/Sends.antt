@@ -7,28 +7,29 @@ use native.Mathlib.Omega.{arith}
 use lib.ListN.{length, getD, set}
 use lib.Dec.{eqb}
 use Rattle.ring.specs.AtOnce.{sendBy}
-use Rattle.ring.specs.Numbers.{entry, found, marked, need, numberAt, sendDecision, sendFound}
+use Rattle.ring.specs.Numbers.{firstNeeds, lookNeeds, marked, need, numberAt, sendDecision, sendLookNeeds}
 use Rattle.ring.specs.Ring.{TAIL}
 use Rattle.runs.specs.Buffer.{stored}
 use Rattle.channel.specs.State.{State, idleAt}
 use Rattle.channel.specs.Send
 use Rattle.channel.proofs.SendAtOnce.{send-at-once, sendOutcome}
+use Rattle.channel.specs.Steps.{nextPlace, pastMessage}
 use Rattle.channel.specs.Operations.{sendLook, sendMove, sendPublish, sendWhole}
-use Rattle.refusals.specs.Leaves.{stateLeft, leaves}
+use Rattle.refusals.specs.Left.{stateLeft, descriptorLeft}
 use Rattle.refusals.proofs.Laws.{Alike, goingOn, lookingSend, mild-none, mild-set, not-one, one-need, oneOf}
 use Rattle.refusals.proofs.Says.{Accepts, Says, refusal, says}
 
 -- ---- which numbers
 
 one-look : (fits : Bool) (own : ℕ) (m d : List ℕ) (n : ℕ) → oneOf lookingSend (numberAt fits own m d n) ≡ true
-unfolding oneOf sendDecision entry sendFound found
+unfolding oneOf sendDecision firstNeeds sendLookNeeds lookNeeds
 one-look fits own m d n =
     let next = one-need lookingSend in
     next _ 1 _ refl (next _ 2 _ refl (next _ 3 _ refl (next _ 4 _ refl (next _ 6 _ refl (next _ 7 _ refl (next _ 8 _ refl (next _ 10 _ refl refl)))))))
 
 -- of a move or a publish: a test after 1 to 3
-pub one-on : (d n : ℕ) (fits test : Bool) → oneOf goingOn (entry d n fits (need test 12 0)) ≡ true
-unfolding oneOf entry
+pub one-on : (d n : ℕ) (fits test : Bool) → oneOf goingOn (firstNeeds d n fits (need test 12 0)) ≡ true
+unfolding oneOf firstNeeds
 one-on d n fits test =
     let next = one-need goingOn in
     next _ 1 _ refl (next _ 2 _ refl (next _ 3 _ refl (next _ 12 _ refl refl)))
@@ -41,7 +42,7 @@ look-alike fits own m n d e a = rw (a .size, a .heads, a .tails, a .statuses)
 
 module _ (s : State) (m b : List ℕ) where
   look-refuses : (c : ℕ) (d : List ℕ) → eqb c 0 ≡ false → oneOf lookingSend c ≡ true → Send.lookBy c s m d b ≡ refusal c (sendLook m) s b d
-  unfolding Send.lookBy marked leaves stateLeft oneOf
+  unfolding Send.lookBy marked descriptorLeft stateLeft oneOf
   look-refuses c d z p = rw (z, not-one lookingSend c 13 p refl)
 
   look-accepts : Accepts (λ (d : List ℕ). Send.lookBy 0 s m d b)
@@ -57,7 +58,7 @@ module _ (s : State) (m b : List ℕ) where
   whole-refuses :
       (c : ℕ) (d : List ℕ) → eqb c 0 ≡ false → oneOf lookingSend c ≡ true
       → sendOutcome s (sendBy c (s .own) m d b) ≡ refusal c (sendWhole m) s b d
-  unfolding sendBy marked leaves stateLeft oneOf
+  unfolding sendBy marked descriptorLeft stateLeft oneOf
   whole-refuses c d z p = rw (z, not-one lookingSend c 13 p refl)
 
   whole-accepts : Accepts (λ (d : List ℕ). sendOutcome s (sendBy 0 (s .own) m d b))
@@ -88,7 +89,7 @@ module _ (s : State) (b : List ℕ) where
   move-alike d e a = rw (a .size)
 
   move-refuses : (c : ℕ) (d : List ℕ) → eqb c 0 ≡ false → oneOf goingOn c ≡ true → Send.moveBy c s d b ≡ refusal c sendMove s b d
-  unfolding Send.moveBy leaves stateLeft oneOf
+  unfolding Send.moveBy descriptorLeft stateLeft oneOf
   move-refuses c d z p =
       rw (z, not-one goingOn c 7 p refl, not-one goingOn c 8 p refl, not-one goingOn c 9 p refl, not-one goingOn c 13 p refl)
 
@@ -97,9 +98,9 @@ module _ (s : State) (b : List ℕ) where
   move-accepts =
       record {
         len = 0;
-        next = Send.moved s;
+        next = Send.afterMove s;
         change = λ d. d;
-        buf = set b (Send.place s b) (getD (s .copy) (s .moved) 0);
+        buf = set b (nextPlace s b) (getD (s .copy) (s .moved) 0);
         out = [];
         is-mild = mild-none;
         same = λ d. refl;
@@ -119,7 +120,7 @@ module _ (s : State) (b : List ℕ) where
   publish-alike d e a = rw (a .size)
 
   publish-refuses : (c : ℕ) (d : List ℕ) → eqb c 0 ≡ false → oneOf goingOn c ≡ true → Send.publishBy c s d b ≡ refusal c sendPublish s b d
-  unfolding Send.publishBy leaves stateLeft oneOf
+  unfolding Send.publishBy descriptorLeft stateLeft oneOf
   publish-refuses c d z p =
       rw (z, not-one goingOn c 7 p refl, not-one goingOn c 8 p refl, not-one goingOn c 9 p refl, not-one goingOn c 13 p refl)
 
@@ -128,11 +129,11 @@ module _ (s : State) (b : List ℕ) where
   publish-accepts =
       record {
         len = 0;
-        next = idleAt (s .n) (Send.past s b);
-        change = λ d. set d TAIL (Send.past s b);
+        next = idleAt (s .n) (pastMessage s b);
+        change = λ d. set d TAIL (pastMessage s b);
         buf = b;
         out = [];
-        is-mild = mild-set TAIL (Send.past s b) (omega arith);
+        is-mild = mild-set TAIL (pastMessage s b) (omega arith);
         same = λ d. refl;
       }
 

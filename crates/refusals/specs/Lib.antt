@@ -1,3 +1,4 @@
+pub mod Order
 pub mod Table
-pub mod Leaves
+pub mod Left
 pub mod Refusals

@@ -1,28 +1,21 @@
--- Document 01, 'The numbers that say no', to be laid beside its table: a row for each number, in its order and words, then which rows each thing
--- that is judged has. A row speaks of the call's inputs alone, never of another row: which of those that apply is the answer, Refusals.antt says.
+-- Document 01, 'The numbers that say no', to be laid beside its table: a row for each number, in its order and words, then which rows each call has.
+-- A row speaks of the call's inputs alone, never of another row: which of those that apply is the answer, Order.antt and Refusals.antt say.
 use Prim.Native.Nat.{ℕ, _+_, _-_, _*_}
 use mathlib.Core.Bool.{Bool, not, _&&_, _||_}
 use mathlib.Core.List.{List, [], _∷_, _++_}
 use lib.ListN.{length, getD}
 use lib.Dec.{eqb, leb, ltb}
 use Rattle.message.specs.Fields.{fit}
-use Rattle.message.specs.Header.{totalLength, wellFormed, isMessage}
-use Rattle.message.specs.Words.{headerFields, hxgFields}
+use Rattle.message.specs.Header.{wellFormed, isMessage}
+use Rattle.message.specs.Packing.{headerFields, hxgFields}
 use Rattle.message.specs.declared.Message.{Message}
 use Rattle.ring.specs.Ring.{allowed, used, free, head, tail, status, good}
-use Rattle.ring.specs.AtOnce.{messageAt}
+use Rattle.ring.specs.AtOnce.{lengthAt, messageAt}
 use Rattle.channel.specs.State.{State, idle, activeSend, activeReceive, header, second}
 use Rattle.channel.specs.Operations.{Op, sendLook, sendMove, sendPublish, sendWhole, receiveLook, receiveMove, receivePublish, receiveWhole}
 use Rattle.firmware.specs.Css
 use Rattle.firmware.specs.Cpd
-
--- a row: its number, and whether the call is what the paper gives it for
-pub record Row : Type 0 where
-  pub number : ℕ
-  pub given : Bool
-
-abbrev pub row : ℕ → Bool → Row
-row n when = record { number = n; given = when }
+use Rattle.refusals.specs.Order.{Row, row}
 
 -- ---- the table: 'No.', 'Given exactly when'
 
@@ -72,23 +65,23 @@ abbrev pub row-8-receive : State → List ℕ → Row
 row-8-receive s desc = row 8 (not (eqb (s .own) (head desc)))
 
 -- 'used = (TAIL - HEAD) mod N; free = N - 1 - used', of the lent descriptor and buffer
-abbrev pub inUse : List ℕ → List ℕ → ℕ
-inUse desc buf = used (length buf) (head desc) (tail desc)
+abbrev pub usedIn : List ℕ → List ℕ → ℕ
+usedIn desc buf = used (length buf) (head desc) (tail desc)
 
-abbrev pub unused : List ℕ → List ℕ → ℕ
-unused desc buf = free (length buf) (head desc) (tail desc)
+abbrev pub freeIn : List ℕ → List ℕ → ℕ
+freeIn desc buf = free (length buf) (head desc) (tail desc)
 
 -- 9 'ring not empty and L exceeds used, at a receive's look': L by the header at the own head
 abbrev pub row-9 : State → List ℕ → List ℕ → Row
-row-9 s desc buf = row 9 (not (eqb (inUse desc buf) 0) && ltb (inUse desc buf) (totalLength (getD buf (s .own) 0)))
+row-9 s desc buf = row 9 (not (eqb (usedIn desc buf) 0) && ltb (usedIn desc buf) (lengthAt (s .own) buf))
 
 -- 10 'L exceeds free, at a send's look': a message has exactly L dwords
 abbrev pub row-10 : List ℕ → List ℕ → List ℕ → Row
-row-10 message desc buf = row 10 (ltb (unused desc buf) (length message))
+row-10 message desc buf = row 10 (ltb (freeIn desc buf) (length message))
 
 -- 11 'nothing pending'
 abbrev pub row-11 : List ℕ → List ℕ → Row
-row-11 desc buf = row 11 (eqb (inUse desc buf) 0)
+row-11 desc buf = row 11 (eqb (usedIn desc buf) 0)
 
 -- 12 'publish before L dwords moved, or a move after L'
 abbrev pub row-12-publish : State → Row
@@ -97,9 +90,16 @@ row-12-publish s = row 12 (ltb (s .moved) (s .len))
 abbrev pub row-12-move : State → Row
 row-12-move s = row 12 (leb (s .len) (s .moved))
 
--- 13 'received message whole but malformed': the copied one at a publish, the one at the own head in a whole receive
-abbrev pub row-13 : ℕ → ℕ → Row
-row-13 first next = row 13 (not (wellFormed first next))
+-- 13 'received message whole but malformed': at a publish the copied one, all L dwords of it moved; in a whole receive the pending one at the own head
+abbrev pub row-13-publish : State → Row
+row-13-publish s = row 13 (leb (s .len) (s .moved) && not (wellFormed (header s) (second s)))
+
+abbrev pub isWhole : State → List ℕ → List ℕ → Bool
+isWhole s desc buf = not (eqb (usedIn desc buf) 0) && leb (lengthAt (s .own) buf) (usedIn desc buf)
+
+abbrev pub row-13-whole : State → List ℕ → List ℕ → Row
+row-13-whole s desc buf =
+    row 13 (isWhole s desc buf && not (wellFormed (getD buf (s .own) 0) (getD (messageAt (s .own) buf) 1 0)))
 
 -- 14 'field too wide, NUM_DWORDS 0, or name to seek not 1 to 12 bytes without a zero'
 abbrev pub row-14-fields : Message → Row
@@ -123,7 +123,7 @@ row-17 blob =
 
 -- 18 'CPD marker wrong or header length below 20'
 abbrev pub row-18 : List ℕ → Row
-row-18 blob = row 18 (not (Cpd.marked blob) || ltb (Cpd.headerLength blob) 20)
+row-18 blob = row 18 (not (Cpd.hasMarker blob) || ltb (Cpd.headerLength blob) 20)
 
 -- 19 'CPD entries lie beyond the blob': 'H + 24n bytes must be there'
 abbrev pub row-19 : List ℕ → Row
@@ -137,11 +137,12 @@ row-20 blob name = row 20 (Cpd.all (λ i. not (Cpd.agrees blob name (Cpd.entrySt
 abbrev pub row-20-index : List ℕ → ℕ → Row
 row-20-index blob i = row 20 (leb (Cpd.count blob) i)
 
--- 21 'entry's part lies beyond the blob', of entry i
+-- 21 'entry's part lies beyond the blob', of entry i, where there is one
 abbrev pub row-21 : List ℕ → ℕ → Row
-row-21 blob i = row 21 (ltb (length blob) (Cpd.entryPart blob (Cpd.entryStart blob i) .to))
+row-21 blob i =
+    row 21 (ltb i (Cpd.count blob) && ltb (length blob) (Cpd.entryPart blob (Cpd.entryStart blob i) .to))
 
--- ---- which rows belong to what
+-- ---- which rows each call has
 
 -- 'Numbers 6 to 11 belong to looks'
 abbrev pub sendLooks : State → List ℕ → List ℕ → List ℕ → List Row
@@ -158,9 +159,8 @@ ownRows sendPublish s d b = row-12-publish s ∷ []
 ownRows (sendWhole m) s d b = row-4 m ∷ sendLooks s m d b
 ownRows receiveLook s d b = receiveLooks s d b
 ownRows receiveMove s d b = row-12-move s ∷ []
-ownRows (receivePublish o) s d b = row-5 o ∷ row-12-publish s ∷ row-13 (header s) (second s) ∷ []
-ownRows (receiveWhole o) s d b =
-    row-5 o ∷ receiveLooks s d b ++ (row-13 (getD b (s .own) 0) (getD (messageAt (s .own) b) 1 0) ∷ [])
+ownRows (receivePublish o) s d b = row-5 o ∷ row-12-publish s ∷ row-13-publish s ∷ []
+ownRows (receiveWhole o) s d b = row-5 o ∷ receiveLooks s d b ++ (row-13-whole s d b ∷ [])
 
 abbrev pub operationRows : Op → State → List ℕ → List ℕ → List Row
 operationRows op s d b = row-1 d ∷ row-2 b ∷ row-3 op s b ∷ ownRows op s d b
@@ -181,6 +181,10 @@ directoryRows blob = row-15 20 blob ∷ row-18 blob ∷ row-19 blob ∷ []
 abbrev pub seekRows : List ℕ → List ℕ → List Row
 seekRows blob name =
     row-14-name name ∷ directoryRows blob ++ (row-20 blob name ∷ row-21 blob (Cpd.firstEntry blob name) ∷ [])
+
+-- the tests of a name sought, one after another: today all its rows are one. A number that is tested out of its order begins a test of its own
+abbrev pub seekTests : List ℕ → List ℕ → List (List Row)
+seekTests blob name = seekRows blob name ∷ []
 
 -- ours: an entry by its index
 abbrev pub entryRows : List ℕ → ℕ → List Row

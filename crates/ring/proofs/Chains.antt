@@ -6,7 +6,7 @@ use native.Mathlib.Omega.{arith}
 use lib.Dec.{eqb}
 use borrow.Author.Tests.{eqb-true, eq-eqb, leb-true}
 use Rattle.message.proofs.Tests.{and-l, and-r, cases}
-use Rattle.ring.specs.Numbers.{entry, need}
+use Rattle.ring.specs.Numbers.{firstNeeds, need}
 use Rattle.ring.specs.Ring.{allowed}
 
 -- a chain of one test that holds
@@ -49,16 +49,16 @@ pub allowed-high : (n : ℕ) → allowed n ≡ true → n ≤ 16384
 unfolding allowed
 allowed-high n e = leb-true n 16384 (search (and-l, and-r))
 
-module _ (d n : ℕ) (fits : Bool) (r x : ℕ) (n₁ : eqb 1 x ≡ false) (n₂ : eqb 2 x ≡ false) (n₃ : eqb 3 x ≡ false) (e : entry d n fits r ≡ x) where
+module _ (d n : ℕ) (fits : Bool) (r x : ℕ) (n₁ : eqb 1 x ≡ false) (n₂ : eqb 2 x ≡ false) (n₃ : eqb 3 x ≡ false) (e : firstNeeds d n fits r ≡ x) where
   after-1 : need (allowed n) 2 (need fits 3 r) ≡ x
-  unfolding entry
+  unfolding firstNeeds
   after-1 = passed-rest (eqb d 16) 1 (need (allowed n) 2 (need fits 3 r)) x n₁ e
 
   after-2 : need fits 3 r ≡ x
   after-2 = passed-rest (allowed n) 2 (need fits 3 r) x n₂ after-1
 
   pub entered : Entered d n
-  unfolding entry
+  unfolding firstNeeds
   entered =
       let a = passed (allowed n) 2 (need fits 3 r) x n₂ after-1 in
       record {
@@ -77,9 +77,9 @@ module _ (d n : ℕ) (fits : Bool) (r x : ℕ) (n₁ : eqb 1 x ≡ false) (n₂ 
 -- what a look judges before the descriptor's words, with a last test of its own: past it the rest of the chain says the number, and a number there is
 -- the chain's
 module _ (d n : ℕ) (fits t : Bool) (k rest : ℕ) where
-  pub entry-none : eqb k 0 ≡ false → entry d n fits (need t k 0) ≡ 0 → entry d n fits (need t k rest) ≡ rest
-  unfolding entry need
-  entry-none q e =
+  pub first-needs-none : eqb k 0 ≡ false → firstNeeds d n fits (need t k 0) ≡ 0 → firstNeeds d n fits (need t k rest) ≡ rest
+  unfolding firstNeeds need
+  first-needs-none q e =
       cases (eqb d 16)
       (λ t₁. cases (allowed n)
       (λ t₂. cases fits
@@ -88,9 +88,9 @@ module _ (d n : ℕ) (fits t : Bool) (k rest : ℕ) where
       (λ t₂. true-false (sym (eq-eqb 2 0 (rw (t₁, t₂) at e)))))
       (λ t₁. true-false (sym (eq-eqb 1 0 (rw t₁ at e))))
 
-  pub entry-one : (c : ℕ) → entry d n fits (need t k 0) ≡ c → (c ≡ 0 → ⊥) → entry d n fits (need t k rest) ≡ c
-  unfolding entry need
-  entry-one c e z =
+  pub first-needs-one : (c : ℕ) → firstNeeds d n fits (need t k 0) ≡ c → (c ≡ 0 → ⊥) → firstNeeds d n fits (need t k rest) ≡ c
+  unfolding firstNeeds need
+  first-needs-one c e z =
       cases (eqb d 16)
       (λ t₁. cases (allowed n)
       (λ t₂. cases fits

@@ -1,4 +1,4 @@
 pub mod Chains
-pub mod Found
+pub mod LookNeeds
 pub mod Sent
 pub mod Taken

@@ -8,14 +8,14 @@ use lib.ListN.{length, getD, set}
 use lib.Dec.{eqb, leb}
 use borrow.Author.Tests.{leb-true, ne-eqb}
 use Rattle.message.specs.Header.{startsMessage, isMessage}
-use Rattle.ring.specs.AtOnce.{ended, send, sendBy}
+use Rattle.ring.specs.AtOnce.{wholeEnd, wholeSend, sendBy}
 use Rattle.ring.specs.Private.{PlacedBy}
-use Rattle.ring.specs.declared.sending.Ended.{Ended}
-use Rattle.ring.specs.Numbers.{found, marked, need, numberAt, sendFound, sendDecision}
+use Rattle.ring.specs.declared.sending.WholeEnd.{WholeEnd}
+use Rattle.ring.specs.Numbers.{lookNeeds, marked, need, numberAt, sendLookNeeds, sendDecision}
 use Rattle.ring.specs.Ring.{TAIL, free, head, status, tail, used}
 use Rattle.ring.proofs.Chains.{Entered, entered, entered-fits, entered-rest, passed, passed-rest}
 use Rattle.message.proofs.Tests.{cases}
-use Rattle.ring.proofs.Found.{found-rest, none-found}
+use Rattle.ring.proofs.LookNeeds.{look-needs-rest, look-needs-met}
 
 -- what an accepted look of a send has: for a state that fits, an own tail, and a ring of n dwords
 pub record Accepted (fits : Bool) (own : ℕ) (m d : List ℕ) (n : ℕ) : Type 0 where
@@ -28,33 +28,33 @@ pub record Accepted (fits : Bool) (own : ℕ) (m d : List ℕ) (n : ℕ) : Type 
 
 module _ (fits : Bool) (own : ℕ) (m d : List ℕ) (n : ℕ) (e : numberAt fits own m d n ≡ 0) where
   rest : ℕ
-  rest = need (startsMessage (length m) (getD m 0 0) (getD m 1 0)) 4 (sendFound n own (length m) (status d) (head d) (tail d))
+  rest = need (startsMessage (length m) (getD m 0 0) (getD m 1 0)) 4 (sendLookNeeds n own (length m) (status d) (head d) (tail d))
 
   e₁ : rest ≡ 0
   unfolding sendDecision rest
   e₁ = entered-rest (length d) n fits rest 0 refl refl refl e
 
-  e₂ : sendFound n own (length m) (status d) (head d) (tail d) ≡ 0
+  e₂ : sendLookNeeds n own (length m) (status d) (head d) (tail d) ≡ 0
   unfolding rest
-  e₂ = passed-rest (startsMessage (length m) (getD m 0 0) (getD m 1 0)) 4 (sendFound n own (length m) (status d) (head d) (tail d)) 0 refl e₁
+  e₂ = passed-rest (startsMessage (length m) (getD m 0 0) (getD m 1 0)) 4 (sendLookNeeds n own (length m) (status d) (head d) (tail d)) 0 refl e₁
 
   fits-free : ℕ
   fits-free = need (leb (length m) (free n (head d) (tail d))) 10 0
 
-  e₃ : found n own (tail d) (status d) (head d) (tail d) fits-free ≡ 0
-  unfolding sendFound fits-free
+  e₃ : lookNeeds n own (tail d) (status d) (head d) (tail d) fits-free ≡ 0
+  unfolding sendLookNeeds fits-free
   e₃ = e₂
 
   pub accepted : Accepted fits own m d n
   unfolding sendDecision rest free fits-free isMessage
   accepted =
-      let f = none-found n own (tail d) (status d) (head d) (tail d) fits-free e₃ in
-      let z : fits-free ≡ 0 = found-rest n own (tail d) (status d) (head d) (tail d) fits-free e₃ in
+      let f = look-needs-met n own (tail d) (status d) (head d) (tail d) fits-free e₃ in
+      let z : fits-free ≡ 0 = look-needs-rest n own (tail d) (status d) (head d) (tail d) fits-free e₃ in
       let r : length m ≤ n - 1 - used n (head d) (tail d) = leb-true (length m) (n - 1 - used n (head d) (tail d)) (passed (leb (length m) (free n (head d) (tail d))) 10 0 0 refl z) in
       record {
         enters = entered (length d) n fits rest 0 refl refl refl e;
         is-fit = entered-fits (length d) n fits rest 0 refl refl refl e;
-        is-message = passed (startsMessage (length m) (getD m 0 0) (getD m 1 0)) 4 (sendFound n own (length m) (status d) (head d) (tail d)) 0 refl e₁;
+        is-message = passed (startsMessage (length m) (getD m 0 0) (getD m 1 0)) 4 (sendLookNeeds n own (length m) (status d) (head d) (tail d)) 0 refl e₁;
         own-tail = f .same;
         below = omega (arith, f .same, f .tail);
         room = omega (arith, f .tail);
@@ -68,8 +68,8 @@ module _ (fits : Bool) (own : ℕ) (m d b : List ℕ) where
       rw (← e) (record { code = refl; no-len = refl; own-tail = rw z; small = λ q. absurd (n q); ring = rw z })
 
   pub whole-placed :
-      (r : Ended) (d′ b′ : List ℕ) → PlacedBy r (numberAt fits own m d (length b)) own m b b′
-      → d′ ≡ cond (eqb (r .code) 0) (set d TAIL (r .own)) (marked (r .code) d) → ended r d′ b′ [] ≡ send fits own m d b
+      (r : WholeEnd) (d′ b′ : List ℕ) → PlacedBy r (numberAt fits own m d (length b)) own m b b′
+      → d′ ≡ cond (eqb (r .code) 0) (set d TAIL (r .own)) (marked (r .code) d) → wholeEnd r d′ b′ [] ≡ wholeSend fits own m d b
   unfolding sendBy
   whole-placed r d′ b′ p g =
       cases (eqb (numberAt fits own m d (length b)) 0)

@@ -8,9 +8,9 @@ use lib.Dec.{eqb}
 use Rattle.message.specs.Header.{totalLength, wellFormed}
 use Rattle.ring.specs.Ring.{HEAD, TAIL}
 use Rattle.runs.specs.Buffer.{window, stored}
-use Rattle.ring.specs.Numbers.{need, marked, numberAt, takeNumber}
-use Rattle.ring.specs.declared.receiving.Seen.{Seen}
-use Rattle.ring.specs.declared.sending.Ended.{Ended}
+use Rattle.ring.specs.Numbers.{need, marked, numberAt, takeDecision}
+use Rattle.ring.specs.declared.receiving.JudgedHeader.{JudgedHeader}
+use Rattle.ring.specs.declared.sending.WholeEnd.{WholeEnd}
 
 -- the number, L, the own offset afterwards, and the lent memory afterwards
 pub record AtOnce : Type 0 where
@@ -22,8 +22,8 @@ pub record AtOnce : Type 0 where
   pub out : List ℕ
 
 -- in the answer struct of a whole call, with the lent memory as the call leaves it
-abbrev pub ended : Ended → List ℕ → List ℕ → List ℕ → AtOnce
-ended r d b o = record { code = r .code; len = r .len; own = r .own; desc = d; buf = b; out = o }
+abbrev pub wholeEnd : WholeEnd → List ℕ → List ℕ → List ℕ → AtOnce
+wholeEnd r d b o = record { code = r .code; len = r .len; own = r .own; desc = d; buf = b; out = o }
 
 -- a whole send: where the look accepts, the message lies from the own tail on, and TAIL past it
 unfoldable pub sendBy : ℕ → ℕ → List ℕ → List ℕ → List ℕ → AtOnce
@@ -37,8 +37,8 @@ sendBy c own m d b =
       out = [];
     }
 
-abbrev pub send : Bool → ℕ → List ℕ → List ℕ → List ℕ → AtOnce
-send fits own m d b = sendBy (numberAt fits own m d (length b)) own m d b
+abbrev pub wholeSend : Bool → ℕ → List ℕ → List ℕ → List ℕ → AtOnce
+wholeSend fits own m d b = sendBy (numberAt fits own m d (length b)) own m d b
 
 -- the message that starts at an own head
 abbrev pub lengthAt : ℕ → List ℕ → ℕ
@@ -48,8 +48,8 @@ abbrev pub messageAt : ℕ → List ℕ → List ℕ
 messageAt own b = window b (length b) own (lengthAt own b)
 
 -- what a receive's look answers by its number: also the header that it judged, where it accepts
-abbrev pub seen : ℕ → ℕ → List ℕ → Seen
-seen c own b = record { code = c; header = cond (eqb c 0) (getD b own 0) 0 }
+abbrev pub judgedHeader : ℕ → ℕ → List ℕ → JudgedHeader
+judgedHeader c own b = record { code = c; header = cond (eqb c 0) (getD b own 0) 0 }
 
 -- the number of a whole receive, of which c is the number but for 13
 unfoldable pub receiveNumber : ℕ → ℕ → List ℕ → ℕ
@@ -67,6 +67,6 @@ receiveBy c own o d b =
       out = cond (eqb c 0) (messageAt own b ++ drop (lengthAt own b) o) o;
     }
 
-abbrev pub receive : Bool → ℕ → List ℕ → List ℕ → List ℕ → AtOnce
-receive fits own o d b =
-    receiveBy (receiveNumber (takeNumber fits own (length o) d (length b) (getD b own 0)) own b) own o d b
+abbrev pub wholeReceive : Bool → ℕ → List ℕ → List ℕ → List ℕ → AtOnce
+wholeReceive fits own o d b =
+    receiveBy (receiveNumber (takeDecision fits own (length o) d (length b) (getD b own 0)) own b) own o d b

@@ -2,11 +2,11 @@
 ghost use mathlib.Core.Path.{_≡_};
 ghost use Prim.Native.Nat.{_<_};
 ghost use Rattle.ring.specs.Ring.{allowed, used};
-ghost use Rattle.ring.specs.Numbers.{need, entry, found, sendFound};
+ghost use Rattle.ring.specs.Numbers.{need, firstNeeds, lookNeeds, sendLookNeeds};
 ghost use Rattle.ring.specs.Private.{pendingNumber, pendingBy};
 
 // The refusal's number where the test fails, else the rest's.
-pub fn refuse(test: bool, number: u32, rest: u32) -> u32
+pub fn need(test: bool, number: u32, rest: u32) -> u32
     ensures { λ r. ⌜ r ≡ need test number rest ⌝ }
 {
     if test { rest } else { number }
@@ -20,13 +20,13 @@ pub fn allowed(n: usize) -> bool
 }
 
 // 1, 2 and 3, which every step judges first, with the lengths of the descriptor and the buffer.
-pub fn entry(descriptor: usize, n: usize, fits: bool, rest: u32) -> u32
-    ensures { λ r. ⌜ r ≡ entry descriptor n fits rest ⌝ }
+pub fn first_needs(descriptor: usize, n: usize, fits: bool, rest: u32) -> u32
+    ensures { λ r. ⌜ r ≡ firstNeeds descriptor n fits rest ⌝ }
 {
-    refuse(
+    need(
         descriptor == 16,
         1,
-        refuse(allowed(n), 2, refuse(fits, 3, rest)),
+        need(allowed(n), 2, need(fits, 3, rest)),
     )
 }
 
@@ -42,9 +42,9 @@ fn used(n: usize, head: usize, tail: usize) -> usize
     }
 }
 
-// What every look finds in the descriptor: 6, 7 or 8, or 0 for none of them. `word` is the descriptor's word that is to be the own offset.
-fn found(n: usize, own: usize, word: usize, status: usize, head: usize, tail: usize) -> u32
-    ensures { λ r. ⌜ r ≡ found n own word status head tail 0 ⌝ }
+// What every look needs of the descriptor: 6, 7 or 8, or 0 for none of them. `word` is the descriptor's word that is to be the own offset.
+fn look_needs(n: usize, own: usize, word: usize, status: usize, head: usize, tail: usize) -> u32
+    ensures { λ r. ⌜ r ≡ lookNeeds n own word status head tail 0 ⌝ }
 {
     if status != 0 {
         return 6;
@@ -61,8 +61,8 @@ fn found(n: usize, own: usize, word: usize, status: usize, head: usize, tail: us
     0
 }
 
-// What a send's look finds: these, or 10.
-pub(crate) fn send_found(
+// What a send's look needs of it: these, or 10.
+pub(crate) fn send_look_needs(
     n: usize,
     own: usize,
     len: usize,
@@ -70,9 +70,9 @@ pub(crate) fn send_found(
     head: usize,
     tail: usize,
 ) -> u32
-    ensures { λ r. ⌜ r ≡ sendFound n own len status head tail ⌝ }
+    ensures { λ r. ⌜ r ≡ sendLookNeeds n own len status head tail ⌝ }
 {
-    let code = found(n, own, tail, status, head, tail);
+    let code = look_needs(n, own, tail, status, head, tail);
     if code != 0 {
         return code;
     }
@@ -92,7 +92,7 @@ pub(crate) struct InUse {
 pub(crate) fn pending(n: usize, own: usize, status: usize, head: usize, tail: usize) -> InUse
     ensures { λ r. ⌜ r ≡ pendingBy (pendingNumber n own status head tail) n head tail ⌝ }
 {
-    let code = found(n, own, head, status, head, tail);
+    let code = look_needs(n, own, head, status, head, tail);
     if code != 0 {
         return InUse { code, used: 0 };
     }

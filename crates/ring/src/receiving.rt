@@ -7,8 +7,8 @@ ghost use lib.Dec.{eqb};
 ghost use lib.ListN.{length, getD, set};
 ghost use Rattle.ring.specs.Ring.{HEAD};
 ghost use Rattle.runs.specs.Buffer.{window};
-ghost use Rattle.ring.specs.Numbers.{foundWith, marked, receiveDecision, takeNumber};
-ghost use Rattle.ring.specs.AtOnce.{seen, ended, receive};
+ghost use Rattle.ring.specs.Numbers.{headerNumber, marked, receiveDecision, takeDecision};
+ghost use Rattle.ring.specs.AtOnce.{judgedHeader, wholeEnd, wholeReceive};
 ghost use Rattle.ring.specs.Private.{TakenBy};
 use crate::memory::HEAD;
 use crate::memory::STATUS;
@@ -16,24 +16,24 @@ use crate::memory::TAIL;
 use crate::memory::mark;
 use crate::memory::publish_head;
 use crate::memory::wide;
-use crate::numbers::entry;
+use crate::numbers::first_needs;
+use crate::numbers::need;
 use crate::numbers::pending;
-use crate::numbers::refuse;
-use crate::sending::Ended;
+use crate::sending::WholeEnd;
 use message::dword_at;
 use runs::lay_message;
 use runs::past;
 
 // What a look answers: the number, and where that is 0 the header that it judged.
-pub struct Seen {
+pub struct JudgedHeader {
     pub code: u32,
     pub header: u32,
 }
 
-// What a look finds: the descriptor's words, then the header at an own head. TAIL that covers a message is published after the message, so a header
+// What a look reads and judges: the descriptor's words, then the header at an own head. TAIL that covers a message is published after the message, so a header
 // that is read before TAIL could be an older message's.
-fn pending_header(own: usize, desc: &[u32], buf: &[u32]) -> Seen
-    ensures { λ r. ⌜ r ≡ seen (foundWith own (now (desc .entry)) (length (now (buf .entry))) (getD (now (buf .entry)) own 0)) own (now (buf .entry)) ⌝ }
+fn pending_header(own: usize, desc: &[u32], buf: &[u32]) -> JudgedHeader
+    ensures { λ r. ⌜ r ≡ judgedHeader (headerNumber own (now (desc .entry)) (length (now (buf .entry))) (getD (now (buf .entry)) own 0)) own (now (buf .entry)) ⌝ }
 {
     let status = wide(dword_at(desc, STATUS));
     let head = wide(dword_at(desc, HEAD));
@@ -41,33 +41,33 @@ fn pending_header(own: usize, desc: &[u32], buf: &[u32]) -> Seen
     let p = pending(buf.len(), own, status, head, tail);
     let code = p.code;
     if code != 0 {
-        return Seen { code, header: 0 };
+        return JudgedHeader { code, header: 0 };
     }
     let header = dword_at(buf, own);
     if p.used < message::total_length(header) {
-        return Seen { code: 9, header: 0 };
+        return JudgedHeader { code: 9, header: 0 };
     }
-    Seen { code: 0, header }
+    JudgedHeader { code: 0, header }
 }
 
 // A receive's look, for a state that fits or not.
-pub fn look_header(fits: bool, own: usize, desc: &[u32], buf: &[u32]) -> Seen
-    ensures { λ r. ⌜ r ≡ seen (receiveDecision fits own (now (desc .entry)) (length (now (buf .entry))) (getD (now (buf .entry)) own 0)) own (now (buf .entry)) ⌝ }
+pub fn receive_decision(fits: bool, own: usize, desc: &[u32], buf: &[u32]) -> JudgedHeader
+    ensures { λ r. ⌜ r ≡ judgedHeader (receiveDecision fits own (now (desc .entry)) (length (now (buf .entry))) (getD (now (buf .entry)) own 0)) own (now (buf .entry)) ⌝ }
 {
-    let code = entry(desc.len(), buf.len(), fits, 0);
+    let code = first_needs(desc.len(), buf.len(), fits, 0);
     if code != 0 {
-        return Seen { code, header: 0 };
+        return JudgedHeader { code, header: 0 };
     }
     pending_header(own, desc, buf)
 }
 
 // The same of a whole receive, which judges its output too.
-fn take_header(fits: bool, own: usize, output: usize, desc: &[u32], buf: &[u32]) -> Seen
-    ensures { λ r. ⌜ r ≡ seen (takeNumber fits own output (now (desc .entry)) (length (now (buf .entry))) (getD (now (buf .entry)) own 0)) own (now (buf .entry)) ⌝ }
+fn take_decision(fits: bool, own: usize, output: usize, desc: &[u32], buf: &[u32]) -> JudgedHeader
+    ensures { λ r. ⌜ r ≡ judgedHeader (takeDecision fits own output (now (desc .entry)) (length (now (buf .entry))) (getD (now (buf .entry)) own 0)) own (now (buf .entry)) ⌝ }
 {
-    let code = entry(desc.len(), buf.len(), fits, refuse(256 <= output, 5, 0));
+    let code = first_needs(desc.len(), buf.len(), fits, need(256 <= output, 5, 0));
     if code != 0 {
-        return Seen { code, header: 0 };
+        return JudgedHeader { code, header: 0 };
     }
     pending_header(own, desc, buf)
 }
@@ -85,30 +85,30 @@ fn second_dword(buf: &[u32], own: usize, len: usize) -> u32
 
 // A whole receive but for its end: decides, judges the header and the second dword, and lays the message where they are well formed: the others go
 // straight to their places in the output, and a malformed message's others are not read. The descriptor is lent to be read.
-fn take_message(fits: bool, own: usize, desc: &[u32], buf: &[u32], out: &mut [u32]) -> Ended
-    ensures { λ r. ⌜ TakenBy r (takeNumber fits own (length (now (out .entry))) (now (desc .entry)) (length (now (buf .entry))) (getD (now (buf .entry)) own 0)) own (now (buf .entry)) (now (out .entry)) (now (out .exit)) ⌝ }
+fn take_message(fits: bool, own: usize, desc: &[u32], buf: &[u32], out: &mut [u32]) -> WholeEnd
+    ensures { λ r. ⌜ TakenBy r (takeDecision fits own (length (now (out .entry))) (now (desc .entry)) (length (now (buf .entry))) (getD (now (buf .entry)) own 0)) own (now (buf .entry)) (now (out .entry)) (now (out .exit)) ⌝ }
 {
-    let seen = take_header(fits, own, out.len(), desc, buf);
-    let code = seen.code;
+    let judged = take_decision(fits, own, out.len(), desc, buf);
+    let code = judged.code;
     if code != 0 {
-        return Ended {
+        return WholeEnd {
             code: code,
             len: 0,
             own: own,
         };
     }
-    let header = seen.header;
+    let header = judged.header;
     let len = message::total_length(header);
     let second = second_dword(buf, own, len);
     if message::well_formed(header, second) {
         let head = lay_message(out, header, second, len, buf, own);
-        return Ended {
+        return WholeEnd {
             code: 0,
             len: len,
             own: head,
         };
     }
-    Ended {
+    WholeEnd {
         code: 13,
         len: 0,
         own: past(own, len, buf.len()),
@@ -116,7 +116,7 @@ fn take_message(fits: bool, own: usize, desc: &[u32], buf: &[u32], out: &mut [u3
 }
 
 // The end of a whole receive: publishes the head past a message that was laid or passed over, or marks STATUS. It is lent neither ring nor output.
-fn end_receive(desc: &mut [u32], end: Ended)
+fn end_receive(desc: &mut [u32], end: WholeEnd)
     requires { ⌜ ((eqb (end .code) 0 || eqb (end .code) 13) ≡ true → end .own < 2 ^ 32) ⌝ }
     ensures { λ _. ⌜ now (desc .exit) ≡ cond (eqb (end .code) 0 || eqb (end .code) 13) (set (now (desc .entry)) HEAD (end .own)) (marked (end .code) (now (desc .entry))) ⌝ }
 {
@@ -135,8 +135,8 @@ pub fn whole_receive(
     desc: &mut [u32],
     buf: &[u32],
     out: &mut [u32],
-) -> Ended
-    ensures { λ r. ⌜ ended r (now (desc .exit)) (now (buf .entry)) (now (out .exit)) ≡ receive fits own (now (out .entry)) (now (desc .entry)) (now (buf .entry)) ⌝ }
+) -> WholeEnd
+    ensures { λ r. ⌜ wholeEnd r (now (desc .exit)) (now (buf .entry)) (now (out .exit)) ≡ wholeReceive fits own (now (out .entry)) (now (desc .entry)) (now (buf .entry)) ⌝ }
 {
     let end = take_message(fits, own, &desc[..], buf, out);
     end_receive(desc, end);

@@ -8,7 +8,7 @@ ghost use lib.Dec.{eqb};
 ghost use lib.ListN.{length, set};
 ghost use Rattle.ring.specs.Ring.{TAIL};
 ghost use Rattle.ring.specs.Numbers.{marked, numberAt, sendDecision};
-ghost use Rattle.ring.specs.AtOnce.{ended, send};
+ghost use Rattle.ring.specs.AtOnce.{wholeEnd, wholeSend};
 ghost use Rattle.ring.specs.Private.{PlacedBy};
 use crate::memory::HEAD;
 use crate::memory::STATUS;
@@ -16,21 +16,21 @@ use crate::memory::TAIL;
 use crate::memory::mark;
 use crate::memory::publish_tail;
 use crate::memory::wide;
-use crate::numbers::entry;
-use crate::numbers::refuse;
-use crate::numbers::send_found;
+use crate::numbers::first_needs;
+use crate::numbers::need;
+use crate::numbers::send_look_needs;
 use message::dword_at;
 use runs::store_message;
 
 // What a whole call answers: the number, L, and the own offset afterwards.
-pub struct Ended {
+pub struct WholeEnd {
     pub code: u32,
     pub len: usize,
     pub own: usize,
 }
 
 // The number of a send's look, for a state that fits or not. The descriptor's words are read where 1 to 4 have passed.
-pub fn look_number(
+pub fn send_decision(
     fits: bool,
     own: usize,
     desc: &[u32],
@@ -42,33 +42,33 @@ pub fn look_number(
     ensures { λ r. ⌜ r ≡ sendDecision fits own len header word (now (desc .entry)) n ⌝ }
 {
     let formed = message::starts_message(len, header, word);
-    let code = entry(desc.len(), n, fits, refuse(formed, 4, 0));
+    let code = first_needs(desc.len(), n, fits, need(formed, 4, 0));
     if code != 0 {
         return code;
     }
     let status = wide(dword_at(desc, STATUS));
     let head = wide(dword_at(desc, HEAD));
     let tail = wide(dword_at(desc, TAIL));
-    send_found(n, own, len, status, head, tail)
+    send_look_needs(n, own, len, status, head, tail)
 }
 
 // A whole send but for its end: decides, and stores the message where it is accepted. The descriptor is lent to be read: while the message is stored
 // nobody can publish.
-fn place_message(fits: bool, own: usize, desc: &[u32], buf: &mut [u32], msg: &[u32]) -> Ended
+fn place_message(fits: bool, own: usize, desc: &[u32], buf: &mut [u32], msg: &[u32]) -> WholeEnd
     ensures { λ r. ⌜ PlacedBy r (numberAt fits own (now (msg .entry)) (now (desc .entry)) (length (now (buf .entry)))) own (now (msg .entry)) (now (buf .entry)) (now (buf .exit)) ⌝ }
 {
     let header = dword_at(msg, 0);
     let word = dword_at(msg, 1);
-    let code = look_number(fits, own, desc, buf.len(), msg.len(), header, word);
+    let code = send_decision(fits, own, desc, buf.len(), msg.len(), header, word);
     if code != 0 {
-        return Ended {
+        return WholeEnd {
             code: code,
             len: 0,
             own: own,
         };
     }
     let tail = store_message(buf, own, header, word, &msg[2..]);
-    Ended {
+    WholeEnd {
         code: 0,
         len: 0,
         own: tail,
@@ -76,7 +76,7 @@ fn place_message(fits: bool, own: usize, desc: &[u32], buf: &mut [u32], msg: &[u
 }
 
 // The end of a whole send: publishes the tail, or marks STATUS. It is lent no ring.
-fn end_send(desc: &mut [u32], end: Ended)
+fn end_send(desc: &mut [u32], end: WholeEnd)
     requires { ⌜ (end .code ≡ 0 → end .own < 2 ^ 32) ⌝ }
     ensures { λ _. ⌜ now (desc .exit) ≡ cond (eqb (end .code) 0) (set (now (desc .entry)) TAIL (end .own)) (marked (end .code) (now (desc .entry))) ⌝ }
 {
@@ -88,8 +88,14 @@ fn end_send(desc: &mut [u32], end: Ended)
 }
 
 // A whole send: with whether the sender's state fits as idle, and its own tail. What ends it needs what placing the message answered, so TAIL comes last.
-pub fn whole_send(fits: bool, own: usize, desc: &mut [u32], buf: &mut [u32], msg: &[u32]) -> Ended
-    ensures { λ r. ⌜ ended r (now (desc .exit)) (now (buf .exit)) [] ≡ send fits own (now (msg .entry)) (now (desc .entry)) (now (buf .entry)) ⌝ }
+pub fn whole_send(
+    fits: bool,
+    own: usize,
+    desc: &mut [u32],
+    buf: &mut [u32],
+    msg: &[u32],
+) -> WholeEnd
+    ensures { λ r. ⌜ wholeEnd r (now (desc .exit)) (now (buf .exit)) [] ≡ wholeSend fits own (now (msg .entry)) (now (desc .entry)) (now (buf .entry)) ⌝ }
 {
     let end = place_message(fits, own, &desc[..], buf, msg);
     end_send(desc, end);

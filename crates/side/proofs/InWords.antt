@@ -13,14 +13,15 @@ use lib.Dec.{eqb}
 use borrow.Author.Tests.{eqb-true}
 use Rattle.message.proofs.Tests.{and-l, and-r, cases}
 use Rattle.channel.specs.State.{State, state, countsOf, counted, zeros, allZero, idleAt, idle, activeSend, activeReceive}
-use Rattle.ring.specs.AtOnce.{AtOnce, ended, send, sendBy, receive, receiveBy, receiveNumber, lengthAt}
-use Rattle.ring.specs.declared.sending.Ended.{Ended}
+use Rattle.ring.specs.AtOnce.{AtOnce, wholeEnd, wholeSend, sendBy, wholeReceive, receiveBy, receiveNumber, lengthAt}
+use Rattle.ring.specs.declared.sending.WholeEnd.{WholeEnd}
 use Rattle.message.specs.Header.{totalLength}
 use Rattle.ring.specs.Ring.{HEAD}
-use Rattle.ring.specs.Numbers.{marked, numberAt, takeNumber}
+use Rattle.ring.specs.Numbers.{marked, numberAt, takeDecision}
+use Rattle.channel.specs.Steps.{pastMessage}
 use Rattle.channel.specs.Send
 use Rattle.channel.specs.Receive
-use Rattle.side.specs.Words.{stateOf, outcome}
+use Rattle.side.specs.Words.{stateOf, inWords}
 use Rattle.runs.proofs.Straight.{drop-replicate, put-front}
 use Rattle.ring.proofs.Chains.{true-false}
 use Rattle.ring.proofs.Taken.{taken-has, take-not-13}
@@ -58,9 +59,9 @@ unfolding stateOf
 moved-is w = refl
 
 -- the words after a move of a send
-pub moved-set : (w : List ℕ) → length w ≡ 260 → stateOf (set w 3 (stateOf w .moved + 1)) ≡ Send.moved (stateOf w)
+pub moved-set : (w : List ℕ) → length w ≡ 260 → stateOf (set w 3 (stateOf w .moved + 1)) ≡ Send.afterMove (stateOf w)
 unfolding stateOf
-moved-set = four (λ w. stateOf (set w 3 (stateOf w .moved + 1)) ≡ Send.moved (stateOf w)) (λ n own len moved copy e. refl)
+moved-set = four (λ w. stateOf (set w 3 (stateOf w .moved + 1)) ≡ Send.afterMove (stateOf w)) (λ n own len moved copy e. refl)
 
 -- the words with another N
 pub n-set : (x : ℕ) (w : List ℕ) → length w ≡ 260 → stateOf (set w 0 x) ≡ state x (stateOf w .own) (stateOf w .len) (stateOf w .moved) (stateOf w .copy)
@@ -131,9 +132,9 @@ unfolding stateOf zeros
 header-set l h = four (λ w. Idle w → l ≡ totalLength h → stateOf (set (set (set w 2 l) 3 1) 4 h) ≡ Receive.loaded (stateOf w) h)
     (λ n own len moved copy e i t. let q : copy ≡ replicate 256 0 = i .no-copy in rw (q, t))
 
-pub copy-set : (v : ℕ) (w : List ℕ) → length w ≡ 260 → stateOf (set (set w (4 + stateOf w .moved) v) 3 (stateOf w .moved + 1)) ≡ Receive.moved (stateOf w) v
+pub copy-set : (v : ℕ) (w : List ℕ) → length w ≡ 260 → stateOf (set (set w (4 + stateOf w .moved) v) 3 (stateOf w .moved + 1)) ≡ Receive.afterMove (stateOf w) v
 unfolding stateOf
-copy-set v = four (λ w. stateOf (set (set w (4 + stateOf w .moved) v) 3 (stateOf w .moved + 1)) ≡ Receive.moved (stateOf w) v)
+copy-set v = four (λ w. stateOf (set (set w (4 + stateOf w .moved) v) 3 (stateOf w .moved + 1)) ≡ Receive.afterMove (stateOf w) v)
     (λ n own len moved copy e. let z : 4 + moved ≡ suc (suc (suc (suc moved))) = omega arith in rw z)
 
 -- the dword of the copy in its word
@@ -168,23 +169,23 @@ unfolding marked
 marked-none d = refl
 
 -- a look that accepts, with the state in words
-pub looked-send : (w m d b w′ d′ : List ℕ) (c : ℕ) → c ≡ Send.lookNumber (stateOf w) m d b → c ≡ 0 → d′ ≡ marked c d → stateOf w′ ≡ Send.loaded (stateOf w) m → outcome c 0 w′ d′ b [] ≡ Send.look (stateOf w) m d b
+pub looked-send : (w m d b w′ d′ : List ℕ) (c : ℕ) → c ≡ Send.lookNumber (stateOf w) m d b → c ≡ 0 → d′ ≡ marked c d → stateOf w′ ≡ Send.loaded (stateOf w) m → inWords c 0 w′ d′ b [] ≡ Send.look (stateOf w) m d b
 looked-send w m d b w′ d′ c e z f g =
     let f0 : d′ ≡ d = f ∙ ap (λ k. marked k d) z ∙ marked-none d in
     rw (sym e, z, f0, g) (sym (send-looked (stateOf w) m d b))
 
-pub looked-receive : (w d b w′ d′ : List ℕ) (c : ℕ) → c ≡ Receive.lookNumber (stateOf w) d b → c ≡ 0 → d′ ≡ marked c d → stateOf w′ ≡ Receive.loaded (stateOf w) (getD b (stateOf w .own) 0) → outcome c 0 w′ d′ b [] ≡ Receive.look (stateOf w) d b
+pub looked-receive : (w d b w′ d′ : List ℕ) (c : ℕ) → c ≡ Receive.lookNumber (stateOf w) d b → c ≡ 0 → d′ ≡ marked c d → stateOf w′ ≡ Receive.loaded (stateOf w) (getD b (stateOf w .own) 0) → inWords c 0 w′ d′ b [] ≡ Receive.look (stateOf w) d b
 looked-receive w d b w′ d′ c e z f g =
     let f0 : d′ ≡ d = f ∙ ap (λ k. marked k d) z ∙ marked-none d in
     rw (sym e, z, f0, g) (sym (receive-looked (stateOf w) d b))
 
 -- a receive's publish that moves HEAD, with the state in words
-module _ (w o d b w′ d′ : List ℕ) (c : ℕ) (e : c ≡ Receive.publishNumber (stateOf w) o d b) (f : d′ ≡ set d HEAD (Receive.past (stateOf w) b)) (g : stateOf w′ ≡ idleAt (stateOf w .n) (Receive.past (stateOf w) b)) where
-  pub passed-over : c ≡ 13 → outcome 13 0 w′ d′ b o ≡ Receive.publish (stateOf w) o d b
+module _ (w o d b w′ d′ : List ℕ) (c : ℕ) (e : c ≡ Receive.publishNumber (stateOf w) o d b) (f : d′ ≡ set d HEAD (pastMessage (stateOf w) b)) (g : stateOf w′ ≡ idleAt (stateOf w .n) (pastMessage (stateOf w) b)) where
+  pub passed-over : c ≡ 13 → inWords 13 0 w′ d′ b o ≡ Receive.publish (stateOf w) o d b
   unfolding Receive.publishBy
   passed-over z = rw (sym e, z, f, g)
 
-  pub handed-out : (l : ℕ) (o′ : List ℕ) → c ≡ 0 → l ≡ stateOf w .len → o′ ≡ take (stateOf w .len) (stateOf w .copy) ++ drop (stateOf w .len) o → outcome 0 l w′ d′ b o′ ≡ Receive.publish (stateOf w) o d b
+  pub handed-out : (l : ℕ) (o′ : List ℕ) → c ≡ 0 → l ≡ stateOf w .len → o′ ≡ take (stateOf w .len) (stateOf w .copy) ++ drop (stateOf w .len) o → inWords 0 l w′ d′ b o′ ≡ Receive.publish (stateOf w) o d b
   unfolding Receive.publishBy
   handed-out l o′ z k q = rw (sym e, z, f, g, k, q)
 
@@ -193,7 +194,7 @@ pub made : (x y : ℕ) (w : List ℕ) → length w ≡ 260 → stateOf w ≡ idl
 made x y w h e = n-set x w h ∙ rw e
 
 -- a whole send, with the state in words
-module _ (w m d b : List ℕ) (h : length w ≡ 260) (r : Ended) (d′ b′ : List ℕ) (e : ended r d′ b′ [] ≡ send (idle (length b) (stateOf w)) (stateOf w .own) m d b) where
+module _ (w m d b : List ℕ) (h : length w ≡ 260) (r : WholeEnd) (d′ b′ : List ℕ) (e : wholeEnd r d′ b′ [] ≡ wholeSend (idle (length b) (stateOf w)) (stateOf w .own) m d b) where
   number : r .code ≡ 0 → numberAt (idle (length b) (stateOf w)) (stateOf w .own) m d (length b) ≡ 0
   unfolding sendBy
   number z = sym (ap (λ (x : AtOnce). x .code) e) ∙ z
@@ -201,11 +202,11 @@ module _ (w m d b : List ℕ) (h : length w ≡ 260) (r : Ended) (d′ b′ : Li
   has : r .code ≡ 0 → Accepted (idle (length b) (stateOf w)) (stateOf w .own) m d (length b)
   has z = accepted (idle (length b) (stateOf w)) (stateOf w .own) m d (length b) (number z)
 
-  pub sent-whole : r .code ≡ 0 → outcome (r .code) 0 (set w 1 (r .own)) d′ b′ [] ≡ Send.whole (stateOf w) m d b
+  pub sent-whole : r .code ≡ 0 → inWords (r .code) 0 (set w 1 (r .own)) d′ b′ [] ≡ Send.whole (stateOf w) m d b
   unfolding stateOf
   sent-whole z = rw (send-method (stateOf w) m d b (idle (length b) (stateOf w)) r d′ b′ refl e, z) (ap (λ (x : State). record { code = 0; len = 0; next = x; desc = d′; buf = b′; out = [] }) (idle-own (r .own) w h (idle-words (length b) w h (has z .is-fit))))
 
-  pub sent-refused : eqb (r .code) 0 ≡ false → outcome (r .code) 0 w d′ b′ [] ≡ Send.whole (stateOf w) m d b
+  pub sent-refused : eqb (r .code) 0 ≡ false → inWords (r .code) 0 w d′ b′ [] ≡ Send.whole (stateOf w) m d b
   sent-refused z = rw (send-method (stateOf w) m d b (idle (length b) (stateOf w)) r d′ b′ refl e, z)
 
   pub sent-own : r .code ≡ 0 → r .own < 2 ^ 32
@@ -216,9 +217,9 @@ module _ (w m d b : List ℕ) (h : length w ≡ 260) (r : Ended) (d′ b′ : Li
       omega (arith, o, mod-lt (stateOf w .own + length m) {m = length b} (omega arith), i .low, i .high)
 
 -- a whole receive, with the state in words
-module _ (w o d b : List ℕ) (h : length w ≡ 260) (r : Ended) (d′ o′ : List ℕ) (e : ended r d′ b o′ ≡ receive (idle (length b) (stateOf w)) (stateOf w .own) o d b) where
+module _ (w o d b : List ℕ) (h : length w ≡ 260) (r : WholeEnd) (d′ o′ : List ℕ) (e : wholeEnd r d′ b o′ ≡ wholeReceive (idle (length b) (stateOf w)) (stateOf w .own) o d b) where
   taken : ℕ
-  taken = takeNumber (idle (length b) (stateOf w)) (stateOf w .own) (length o) d (length b) (getD b (stateOf w .own) 0)
+  taken = takeDecision (idle (length b) (stateOf w)) (stateOf w .own) (length o) d (length b) (getD b (stateOf w .own) 0)
 
   -- 0 and 13 come after a look that accepts
   took : (eqb (r .code) 0 || eqb (r .code) 13) ≡ true → taken ≡ 0
@@ -230,14 +231,14 @@ module _ (w o d b : List ℕ) (h : length w ≡ 260) (r : Ended) (d′ o′ : Li
       let n = take-not-13 (idle (length b) (stateOf w)) (stateOf w .own) (length o) d (length b) (getD b (stateOf w .own) 0) in
       true-false (sym z ∙ rw (c, t, n)))
 
-  pub received-whole : (eqb (r .code) 0 || eqb (r .code) 13) ≡ true → outcome (r .code) (r .len) (set w 1 (r .own)) d′ b o′ ≡ Receive.whole (stateOf w) o d b
+  pub received-whole : (eqb (r .code) 0 || eqb (r .code) 13) ≡ true → inWords (r .code) (r .len) (set w 1 (r .own)) d′ b o′ ≡ Receive.whole (stateOf w) o d b
   unfolding taken stateOf
   received-whole z =
       let t = taken-has _ _ _ _ _ _ (took z) in
       let i = idle-own (r .own) w h (idle-words (length b) w h (t .is-fit)) in
       rw (receive-method (stateOf w) o d b (idle (length b) (stateOf w)) r d′ o′ refl e, z) (ap (λ (x : State). record { code = r .code; len = r .len; next = x; desc = d′; buf = b; out = o′ }) i)
 
-  pub received-refused : (eqb (r .code) 0 || eqb (r .code) 13) ≡ false → outcome (r .code) (r .len) w d′ b o′ ≡ Receive.whole (stateOf w) o d b
+  pub received-refused : (eqb (r .code) 0 || eqb (r .code) 13) ≡ false → inWords (r .code) (r .len) w d′ b o′ ≡ Receive.whole (stateOf w) o d b
   received-refused z = rw (receive-method (stateOf w) o d b (idle (length b) (stateOf w)) r d′ o′ refl e, z)
 
   pub received-own : (eqb (r .code) 0 || eqb (r .code) 13) ≡ true → r .own < 2 ^ 32

@@ -11,8 +11,8 @@ unfoldable pub stateOf : List ℕ → State
 stateOf w = state (getD w 0 0) (getD w 1 0) (getD w 2 0) (getD w 3 0) (drop 4 w)
 
 -- the outcome of a call that answers a number and L, with the words and the lent memory as it leaves them
-abbrev pub outcome : ℕ → ℕ → List ℕ → List ℕ → List ℕ → List ℕ → Outcome
-outcome c l w d b o = record { code = c; len = l; next = stateOf w; desc = d; buf = b; out = o }
+abbrev pub inWords : ℕ → ℕ → List ℕ → List ℕ → List ℕ → List ℕ → Outcome
+inWords c l w d b o = record { code = c; len = l; next = stateOf w; desc = d; buf = b; out = o }
 
 -- the same of an opening, with both sides' words
 abbrev pub openedWords : ℕ → List ℕ → List ℕ → List ℕ → List ℕ → Opening

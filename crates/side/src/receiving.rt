@@ -5,14 +5,14 @@ ghost use Prim.Native.Nat.{ℕ, _+_, _≤_, _<_};
 ghost use lib.ListN.{length, getD, take, drop};
 ghost use Rattle.runs.specs.Buffer;
 ghost use Rattle.channel.specs.Receive;
-ghost use Rattle.side.specs.Words.{stateOf, outcome};
+ghost use Rattle.side.specs.Words.{stateOf, inWords};
 use crate::words::counts_of;
 use crate::words::is_idle;
 use crate::words::rest_at;
 use channel::publish_number;
 use channel::receiving_number;
 use message::dword_at;
-use ring::refuse;
+use ring::need;
 use runs::past;
 
 // What a receive answers: the number, and the length L of the message laid, 0 where none is.
@@ -23,7 +23,7 @@ pub struct Laid {
 
 // A whole receive.
 pub fn receive(w: &mut [u32; 260], desc: &mut [u32], buf: &[u32], out: &mut [u32]) -> Laid
-    ensures { λ r. ⌜ outcome (r .code) (r .len) (now (w .exit)) (now (desc .exit)) (now (buf .entry)) (now (out .exit)) ≡ Receive.whole (stateOf (now (w .entry))) (now (out .entry)) (now (desc .entry)) (now (buf .entry)) ⌝ }
+    ensures { λ r. ⌜ inWords (r .code) (r .len) (now (w .exit)) (now (desc .exit)) (now (buf .entry)) (now (out .exit)) ≡ Receive.whole (stateOf (now (w .entry))) (now (out .entry)) (now (desc .entry)) (now (buf .entry)) ⌝ }
 {
     let s = counts_of(&w[..]);
     let fits = is_idle(&w[..], s, buf.len());
@@ -39,18 +39,18 @@ pub fn receive(w: &mut [u32; 260], desc: &mut [u32], buf: &[u32], out: &mut [u32
 
 // Judges the descriptor and the header, and takes a copy of the header.
 pub fn receive_look(w: &mut [u32; 260], desc: &mut [u32], buf: &[u32]) -> u32
-    ensures { λ r. ⌜ outcome r 0 (now (w .exit)) (now (desc .exit)) (now (buf .entry)) [] ≡ Receive.look (stateOf (now (w .entry))) (now (desc .entry)) (now (buf .entry)) ⌝ }
+    ensures { λ r. ⌜ inWords r 0 (now (w .exit)) (now (desc .exit)) (now (buf .entry)) [] ≡ Receive.look (stateOf (now (w .entry))) (now (desc .entry)) (now (buf .entry)) ⌝ }
 {
     let n = buf.len();
     let s = counts_of(&w[..]);
     let fits = is_idle(&w[..], s, n);
-    let seen = ring::look_header(fits, s.own, &desc[..], buf);
-    let code = seen.code;
+    let judged = ring::receive_decision(fits, s.own, &desc[..], buf);
+    let code = judged.code;
     if code != 0 {
         ring::mark(desc, code);
         return code;
     }
-    let header = seen.header;
+    let header = judged.header;
     w[2] = message::total_length(header) as u32;
     w[3] = 1;
     w[4] = header;
@@ -59,12 +59,12 @@ pub fn receive_look(w: &mut [u32; 260], desc: &mut [u32], buf: &[u32]) -> u32
 
 // Copies the next dword of the message.
 pub fn receive_copy(w: &mut [u32; 260], desc: &[u32], buf: &[u32]) -> u32
-    ensures { λ r. ⌜ outcome r 0 (now (w .exit)) (now (desc .entry)) (now (buf .entry)) [] ≡ Receive.move (stateOf (now (w .entry))) (now (desc .entry)) (now (buf .entry)) ⌝ }
+    ensures { λ r. ⌜ inWords r 0 (now (w .exit)) (now (desc .entry)) (now (buf .entry)) [] ≡ Receive.move (stateOf (now (w .entry))) (now (desc .entry)) (now (buf .entry)) ⌝ }
 {
     let n = buf.len();
     let s = counts_of(&w[..]);
     let moved = s.moved;
-    let rest = refuse(moved < s.len, 12, 0);
+    let rest = need(moved < s.len, 12, 0);
     let code = receiving_number(s, w[4], desc.len(), n, rest);
     if code != 0 {
         return code;
@@ -93,7 +93,7 @@ fn lay(
 
 // A publish over a ring of n dwords, which it is not lent: the header cannot be read again.
 fn publish_at(w: &mut [u32; 260], desc: &mut [u32], n: usize, out: &mut [u32]) -> Laid
-    ensures { λ r. ⌜ ((b : List ℕ) → length b ≡ n → outcome (r .code) (r .len) (now (w .exit)) (now (desc .exit)) b (now (out .exit)) ≡ Receive.publish (stateOf (now (w .entry))) (now (out .entry)) (now (desc .entry)) b) ⌝ }
+    ensures { λ r. ⌜ ((b : List ℕ) → length b ≡ n → inWords (r .code) (r .len) (now (w .exit)) (now (desc .exit)) b (now (out .exit)) ≡ Receive.publish (stateOf (now (w .entry))) (now (out .entry)) (now (desc .entry)) b) ⌝ }
 {
     let s = counts_of(&w[..]);
     let header = w[4];
@@ -117,7 +117,7 @@ fn publish_at(w: &mut [u32; 260], desc: &mut [u32], n: usize, out: &mut [u32]) -
 
 // Publishes HEAD past the message, and lays the copy at the front of the output where it is well formed. The ring is not read.
 pub fn receive_publish(w: &mut [u32; 260], desc: &mut [u32], buf: &[u32], out: &mut [u32]) -> Laid
-    ensures { λ r. ⌜ outcome (r .code) (r .len) (now (w .exit)) (now (desc .exit)) (now (buf .entry)) (now (out .exit)) ≡ Receive.publish (stateOf (now (w .entry))) (now (out .entry)) (now (desc .entry)) (now (buf .entry)) ⌝ }
+    ensures { λ r. ⌜ inWords (r .code) (r .len) (now (w .exit)) (now (desc .exit)) (now (buf .entry)) (now (out .exit)) ≡ Receive.publish (stateOf (now (w .entry))) (now (out .entry)) (now (desc .entry)) (now (buf .entry)) ⌝ }
 {
     publish_at(w, desc, buf.len(), out)
 }

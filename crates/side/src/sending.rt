@@ -4,7 +4,7 @@ ghost use mathlib.Core.List.{List, []};
 ghost use Prim.Native.Nat.{ℕ};
 ghost use lib.ListN.{length};
 ghost use Rattle.channel.specs.Send;
-ghost use Rattle.side.specs.Words.{stateOf, outcome};
+ghost use Rattle.side.specs.Words.{stateOf, inWords};
 use crate::words::copy_dword;
 use crate::words::counts_of;
 use crate::words::is_idle;
@@ -16,7 +16,7 @@ use runs::past;
 
 // A whole send.
 pub fn send(w: &mut [u32; 260], desc: &mut [u32], buf: &mut [u32], msg: &[u32]) -> u32
-    ensures { λ r. ⌜ outcome r 0 (now (w .exit)) (now (desc .exit)) (now (buf .exit)) [] ≡ Send.whole (stateOf (now (w .entry))) (now (msg .entry)) (now (desc .entry)) (now (buf .entry)) ⌝ }
+    ensures { λ r. ⌜ inWords r 0 (now (w .exit)) (now (desc .exit)) (now (buf .exit)) [] ≡ Send.whole (stateOf (now (w .entry))) (now (msg .entry)) (now (desc .entry)) (now (buf .entry)) ⌝ }
 {
     let s = counts_of(&w[..]);
     let fits = is_idle(&w[..], s, buf.len());
@@ -30,14 +30,14 @@ pub fn send(w: &mut [u32; 260], desc: &mut [u32], buf: &mut [u32], msg: &[u32]) 
 // Judges a message and the descriptor, and takes a copy of the message. Its first two dwords are read once: those that are judged are those that are
 // copied.
 pub fn send_look(w: &mut [u32; 260], desc: &mut [u32], buf: &[u32], msg: &[u32]) -> u32
-    ensures { λ r. ⌜ outcome r 0 (now (w .exit)) (now (desc .exit)) (now (buf .entry)) [] ≡ Send.look (stateOf (now (w .entry))) (now (msg .entry)) (now (desc .entry)) (now (buf .entry)) ⌝ }
+    ensures { λ r. ⌜ inWords r 0 (now (w .exit)) (now (desc .exit)) (now (buf .entry)) [] ≡ Send.look (stateOf (now (w .entry))) (now (msg .entry)) (now (desc .entry)) (now (buf .entry)) ⌝ }
 {
     let n = buf.len();
     let s = counts_of(&w[..]);
     let fits = is_idle(&w[..], s, n);
     let header = dword_at(msg, 0);
     let word = dword_at(msg, 1);
-    let code = ring::look_number(fits, s.own, &desc[..], n, msg.len(), header, word);
+    let code = ring::send_decision(fits, s.own, &desc[..], n, msg.len(), header, word);
     if code != 0 {
         ring::mark(desc, code);
         return code;
@@ -48,7 +48,7 @@ pub fn send_look(w: &mut [u32; 260], desc: &mut [u32], buf: &[u32], msg: &[u32])
 
 // Stores the next dword of the copy in the buffer.
 pub fn send_store(w: &mut [u32; 260], desc: &[u32], buf: &mut [u32]) -> u32
-    ensures { λ r. ⌜ outcome r 0 (now (w .exit)) (now (desc .entry)) (now (buf .exit)) [] ≡ Send.move (stateOf (now (w .entry))) (now (desc .entry)) (now (buf .entry)) ⌝ }
+    ensures { λ r. ⌜ inWords r 0 (now (w .exit)) (now (desc .entry)) (now (buf .exit)) [] ≡ Send.move (stateOf (now (w .entry))) (now (desc .entry)) (now (buf .entry)) ⌝ }
 {
     let n = buf.len();
     let s = counts_of(&w[..]);
@@ -67,7 +67,7 @@ pub fn send_store(w: &mut [u32; 260], desc: &[u32], buf: &mut [u32]) -> u32
 
 // A publish over a ring of n dwords, which it is not lent.
 fn publish_at(w: &mut [u32; 260], desc: &mut [u32], n: usize) -> u32
-    ensures { λ r. ⌜ ((b : List ℕ) → length b ≡ n → outcome r 0 (now (w .exit)) (now (desc .exit)) b [] ≡ Send.publish (stateOf (now (w .entry))) (now (desc .entry)) b) ⌝ }
+    ensures { λ r. ⌜ ((b : List ℕ) → length b ≡ n → inWords r 0 (now (w .exit)) (now (desc .exit)) b [] ≡ Send.publish (stateOf (now (w .entry))) (now (desc .entry)) b) ⌝ }
 {
     let s = counts_of(&w[..]);
     let code = sending_number(s, w[4], w[5], desc.len(), n, s.len <= s.moved);
@@ -82,7 +82,7 @@ fn publish_at(w: &mut [u32; 260], desc: &mut [u32], n: usize) -> u32
 
 // Publishes TAIL past the message, once all of it is stored.
 pub fn send_publish(w: &mut [u32; 260], desc: &mut [u32], buf: &[u32]) -> u32
-    ensures { λ r. ⌜ outcome r 0 (now (w .exit)) (now (desc .exit)) (now (buf .entry)) [] ≡ Send.publish (stateOf (now (w .entry))) (now (desc .entry)) (now (buf .entry)) ⌝ }
+    ensures { λ r. ⌜ inWords r 0 (now (w .exit)) (now (desc .exit)) (now (buf .entry)) [] ≡ Send.publish (stateOf (now (w .entry))) (now (desc .entry)) (now (buf .entry)) ⌝ }
 {
     publish_at(w, desc, buf.len())
 }

@@ -6,11 +6,12 @@ use mathlib.Core.Option.{Option·elim}
 use Rattle.message.specs.Fields.{fit, dword}
 use Rattle.message.specs.Types.{typeOf, carried, bodyFields, bodies, ofType, bodyOf, someBody, known}
 use Rattle.message.specs.Header.{wellFormed, isMessage}
-use Rattle.message.specs.Words.{originNumber, originOf, decoded, unpack, headerFields, hxgFields, pack, refusing}
+use Rattle.message.specs.Packing.{originNumber, originOf, decoded, unpack, headerFields, hxgFields, pack, refusing}
 use Rattle.ring.specs.Ring.{allowed, used, free}
 use Rattle.channel.specs.State.{zeros, allZero, idle, activeSend}
-use Rattle.ring.specs.Numbers.{need, entry, found, sendFound, receiveFound, sendDecision, receiveDecision, marked}
+use Rattle.ring.specs.Numbers.{need, firstNeeds, lookNeeds, sendLookNeeds, receiveLookNeeds, sendDecision, receiveDecision, marked}
 use Rattle.channel.specs.Opening.{openNumber, openBy}
+use Rattle.channel.specs.Steps.{moves}
 use Rattle.channel.specs.Send
 use Rattle.channel.specs.Receive
 use Rattle.firmware.specs.Bytes.{dwordAt}
@@ -18,7 +19,7 @@ use Rattle.firmware.specs.Css
 use Rattle.firmware.specs.Cpd
 use Rattle.examples.specs.Example.{Each}
 use Rattle.examples.specs.Inputs
-use Rattle.examples.specs.Table.{Examples, table, fresh, once, twice, thrice, full, stores, around}
+use Rattle.examples.specs.Table.{Examples, table, freshChannel, once, twice, thrice, full, stores, around}
 use Rattle.examples.proofs.worked_examples.Statement.{statement}
 use Rattle.examples.proofs.worked_examples.Tie as tie
 
@@ -29,15 +30,15 @@ _&_ row rows = (row, rows)
 
 examples : Examples
 unfolding
-    Each table fresh once twice thrice full stores around
-    Inputs.counted Inputs.dwords Inputs.descriptor Inputs.buffer Inputs.bufferWith
-    Inputs.littles Inputs.cssHeader Inputs.image Inputs.entry Inputs.directory
+    Each table freshChannel once twice thrice full stores around
+    Inputs.countUp Inputs.dwords Inputs.descriptorWith Inputs.buffer Inputs.bufferWith
+    Inputs.littles Inputs.cssHeader Inputs.image Inputs.entryBytes Inputs.directory
     fit dword typeOf carried bodyFields bodies ofType bodyOf someBody known wellFormed isMessage originNumber originOf
     decoded unpack Option·elim headerFields hxgFields pack refusing
-    allowed used free zeros allZero idle activeSend need entry found sendFound receiveFound marked openNumber openBy
-    sendDecision Send.lookBy Send.moveNumber Send.moveBy Send.publishNumber Send.publishBy Send.moves Send.rest receiveDecision Receive.lookBy
-    dwordAt Css.sizes Css.agree Css.laid Css.number Css.truncated Css.shown Css.place
-    Cpd.all Cpd.first Cpd.isName Cpd.marked Cpd.directoryNumber Cpd.firstEntry Cpd.entryNumber Cpd.entryPlace Cpd.number Cpd.place
+    allowed used free zeros allZero idle activeSend need firstNeeds lookNeeds sendLookNeeds receiveLookNeeds marked openNumber openBy
+    sendDecision Send.lookBy Send.moveNumber Send.moveBy Send.publishNumber Send.publishBy moves Send.afterLook receiveDecision Receive.lookBy
+    dwordAt Css.sizes Css.agree Css.spanOf Css.number Css.truncated Css.shown Css.place
+    Cpd.all Cpd.firstFrom Cpd.isName Cpd.hasMarker Cpd.directoryNumber Cpd.firstEntry Cpd.entryNumber Cpd.entryPlace Cpd.number Cpd.place
 examples =
     refl & refl & refl & refl & refl & refl & refl
     & refl & refl

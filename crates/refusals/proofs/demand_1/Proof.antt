@@ -1,12 +1,13 @@
 -- `demand_1` meets its contract: each call's number is that of the first row of the table that is given. Assumes nothing.
-use Prim.Native.Nat.{ℕ}
+use Prim.Native.Nat.{ℕ, zero, suc}
 use mathlib.Core.Path.{_≡_, refl, _∙_}
-use mathlib.Core.Bool.{true}
+use mathlib.Core.Bool.{true, false}
 use mathlib.Core.List.{List}
 use lib.ListN.{length}
+use lib.Dec.{eqb·zero-suc}
 use borrow.Author.Tests.{ne-eqb}
-use Rattle.channel.specs.State.{State}
-use Rattle.channel.specs.Opening as Channel
+use Rattle.channel.specs.State.{State, idleAt, madeFor, idle, activeSend, activeReceive}
+use Rattle.channel.specs.Opening.{openBy}
 use Rattle.channel.specs.Operations.{Op, sendLook, sendMove, sendPublish, sendWhole, receiveLook, receiveMove, receivePublish, receiveWhole, gives}
 use Rattle.firmware.specs.Css
 use Rattle.firmware.specs.Cpd
@@ -14,9 +15,9 @@ use Rattle.firmware.specs.Inside.{hucNumber, manifestNumber}
 use Rattle.firmware.specs.Version.{cssReading, hucReading, manifestReading, reading}
 use Rattle.firmware.specs.declared.css.Component.the-variants.{Ucode}
 use Rattle.firmware.proofs.Nowhere.{entry-nowhere, huc-nowhere, image-nowhere, name-nowhere}
-use Rattle.refusals.specs.Table.{operationRows}
-use Rattle.refusals.specs.Leaves.{OperationRefused, ReservedStay}
-use Rattle.refusals.specs.Refusals.{Demand1, Leaves, PublicCall, answer, directory, entryPart, hucAnswer, hucPart, hucVersion, imageAnswer, imagePart, imageVersion, judged, manifestVersion, namedPart, opening, operation, packing, unpacking}
+use Rattle.refusals.specs.Table.{fits, operationRows}
+use Rattle.refusals.specs.Left.{OperationRefused, ReservedStay}
+use Rattle.refusals.specs.Refusals.{Demand1, Left, PublicCall, directory, entryLocation, hucAnswer, hucLocation, hucVersion, imageAnswer, imageLocation, imageVersion, manifestVersion, namedAnswer, namedLocation, numberOf, openChannel, operation, packing, tests, unpacking}
 use Rattle.refusals.proofs.Sends.{send-look, send-move, send-publish, send-whole}
 use Rattle.refusals.proofs.Receives.{opening-refused, receive-look, receive-move, receive-publish, receive-whole}
 use Rattle.refusals.proofs.Lowest.{accepts, allRise, exactly, firstJudged, firstOf, rising}
@@ -57,11 +58,27 @@ operation-reserved receiveMove s b = receive-move s b .stay
 operation-reserved (receivePublish o) s b = receive-publish s o b .stay
 operation-reserved (receiveWhole o) s b = receive-whole s o b .stay
 
+-- a state made for N 0 is made for no ring
+not-made : (n : ℕ) → madeFor n (idleAt 0 0) ≡ false
+not-made zero = refl
+not-made (suc n) = rw (eqb·zero-suc n)
+
+no-call : (op : Op) (n : ℕ) → fits op n (idleAt 0 0) ≡ false
+unfolding idle activeSend activeReceive
+no-call (sendLook m) n = rw (not-made n)
+no-call sendMove n = rw (not-made n)
+no-call sendPublish n = rw (not-made n)
+no-call (sendWhole m) n = rw (not-made n)
+no-call receiveLook n = rw (not-made n)
+no-call receiveMove n = rw (not-made n)
+no-call (receivePublish o) n = rw (not-made n)
+no-call (receiveWhole o) n = rw (not-made n)
+
 -- ---- every call
 
-rise : (x : PublicCall) → allRise (judged x) ≡ true
+rise : (x : PublicCall) → allRise (tests x) ≡ true
 unfolding allRise rising
-rise (opening d b) = refl
+rise (openChannel d b) = refl
 rise (operation (sendLook m) s d b) = refl
 rise (operation sendMove s d b) = refl
 rise (operation sendPublish s d b) = refl
@@ -72,63 +89,67 @@ rise (operation (receivePublish o) s d b) = refl
 rise (operation (receiveWhole o) s d b) = refl
 rise (packing m) = refl
 rise (unpacking dwords) = refl
-rise (imagePart which blob) = refl
+rise (imageLocation which blob) = refl
 rise (imageAnswer blob) = refl
 rise (imageVersion blob) = refl
-rise (namedPart blob name) = refl
+rise (namedLocation blob name) = refl
+rise (namedAnswer blob name) = refl
 rise (directory blob) = refl
-rise (entryPart blob i) = refl
+rise (entryLocation blob i) = refl
 rise (manifestVersion blob) = refl
-rise (hucPart which blob) = refl
+rise (hucLocation which blob) = refl
 rise (hucAnswer blob) = refl
 rise (hucVersion blob) = refl
 
-number : (x : PublicCall) → answer x ≡ firstJudged (judged x)
-unfolding Channel.openBy Cpd.entriesOf cssReading hucReading manifestReading reading
-number (opening d b) = opens d b ∙ alone _
+number : (x : PublicCall) → numberOf x ≡ firstJudged (tests x)
+unfolding openBy Cpd.entriesOf cssReading hucReading manifestReading reading
+number (openChannel d b) = opens d b ∙ alone _
 number (operation op s d b) = operation-number op s d b ∙ alone _
 number (packing m) = packs m ∙ alone _
 number (unpacking dwords) = unpacks dwords ∙ alone _
-number (imagePart which blob) = image-number blob ∙ alone _
+number (imageLocation which blob) = image-number blob ∙ alone _
 number (imageAnswer blob) = image-number blob ∙ alone _
 number (imageVersion blob) = image-number blob ∙ alone _
-number (namedPart blob name) = seek-number blob name ∙ alone _
+number (namedLocation blob name) = seek-number blob name ∙ alone _
+number (namedAnswer blob name) = seek-number blob name ∙ alone _
 number (directory blob) = directory-number blob ∙ alone _
-number (entryPart blob i) = entry-number blob i ∙ alone _
+number (entryLocation blob i) = entry-number blob i ∙ alone _
 number (manifestVersion blob) = manifest-number blob
-number (hucPart which blob) = huc-number blob
+number (hucLocation which blob) = huc-number blob
 number (hucAnswer blob) = huc-number blob
 number (hucVersion blob) = huc-number blob
 
-leaves : (x : PublicCall) → (answer x ≡ 0 → ⊥) → Leaves x
-unfolding Leaves Cpd.entriesOf cssReading hucReading manifestReading
-leaves (opening d b) z = opening-refused d b z
-leaves (operation op s d b) z = operation-refused op s d b z
-leaves (packing m) z = refused-nothing 14 _ z
-leaves (unpacking dwords) z = refused-nothing 4 _ z
-leaves (imagePart which blob) z = location-refused _ _ (image-nowhere blob which (ne-eqb (Css.number blob) 0 z))
-leaves (imageAnswer blob) z =
+left : (x : PublicCall) → (numberOf x ≡ 0 → ⊥) → Left x
+unfolding Left Cpd.entriesOf cssReading hucReading manifestReading
+left (openChannel d b) z = opening-refused d b z
+left (operation op s d b) z = operation-refused op s d b z
+left (packing m) z = refused-nothing 14 _ z
+left (unpacking dwords) z = refused-nothing 4 _ z
+left (imageLocation which blob) z = location-refused _ _ (image-nowhere blob which (ne-eqb (Css.number blob) 0 z))
+left (imageAnswer blob) z =
     location-refused _ _ (image-nowhere blob Ucode (ne-eqb (Css.number blob) 0 z)) .not-truncated
-leaves (imageVersion blob) z = reading-refused _ _ z
-leaves (namedPart blob name) z =
+left (imageVersion blob) z = reading-refused _ _ z
+left (namedLocation blob name) z =
     location-refused (Cpd.number blob name) _ (rw (name-nowhere blob name (ne-eqb (Cpd.number blob name) 0 z)))
-leaves (directory blob) z = rw (ne-eqb (Cpd.directoryNumber blob) 0 z)
-leaves (entryPart blob i) z =
+left (namedAnswer blob name) z = tt
+left (directory blob) z = rw (ne-eqb (Cpd.directoryNumber blob) 0 z)
+left (entryLocation blob i) z =
     location-refused (Cpd.entryNumber blob i) _ (rw (entry-nowhere blob i (ne-eqb (Cpd.entryNumber blob i) 0 z)))
-leaves (manifestVersion blob) z = reading-refused _ _ z
-leaves (hucPart which blob) z = location-refused _ _ (huc-nowhere blob which (ne-eqb (hucNumber blob) 0 z))
-leaves (hucAnswer blob) z = location-refused _ _ (huc-nowhere blob Ucode (ne-eqb (hucNumber blob) 0 z)) .not-truncated
-leaves (hucVersion blob) z = reading-refused _ _ z
+left (manifestVersion blob) z = reading-refused _ _ z
+left (hucLocation which blob) z = location-refused _ _ (huc-nowhere blob which (ne-eqb (hucNumber blob) 0 z))
+left (hucAnswer blob) z = location-refused _ _ (huc-nowhere blob Ucode (ne-eqb (hucNumber blob) 0 z)) .not-truncated
+left (hucVersion blob) z = reading-refused _ _ z
 
 demand1 : Demand1
-unfolding Channel.openBy
+unfolding openBy
 demand1 =
     record {
-      exact = λ x c. exactly (judged x) (answer x) c (rise x) (number x);
-      accepts = λ x. accepts (judged x) (answer x) (rise x) (number x);
-      leaves = leaves;
+      exact = λ x c. exactly (tests x) (numberOf x) c (rise x) (number x);
+      accepts = λ x. accepts (tests x) (numberOf x) (rise x) (number x);
+      left = left;
       opening-buffer = λ d b. refl;
-      reserved = operation-reserved;
+      reserved-words = operation-reserved;
+      fit-no-call = no-call;
     }
 
 returns : tie.Need-returns

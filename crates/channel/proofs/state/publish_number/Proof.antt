@@ -10,9 +10,9 @@ unfolding activeReceive publishNumberOf
 returns c =
     simp (
       c .receiving-number .ensures,
-      c .before .refuse3 .ensures,
-      c .before .before .refuse2 .ensures,
-      c .before .before .before .refuse .ensures,
+      c .before .need3 .ensures,
+      c .before .before .need2 .ensures,
+      c .before .before .before .need .ensures,
       c .before .before .before .before .before .well-formed .ensures,
     )
 

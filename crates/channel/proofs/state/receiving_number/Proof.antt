@@ -4,7 +4,7 @@ use Rattle.channel.proofs.state.receiving_number.Statement.{statement}
 use Rattle.channel.proofs.state.receiving_number.Tie as tie
 
 returns : tie.Need-returns
-returns c = simp (c .entry .ensures, c .before .fits-receiving .ensures)
+returns c = simp (c .first-needs .ensures, c .before .fits-receiving .ensures)
 
 pub receiving-number-spec : {M : Type 1} → statement M
 receiving-number-spec = tie.close (tie.spec (λ c κs. search needs) (λ c κs. search needs) returns)

@@ -25,7 +25,7 @@ returns-2 c =
     let n = at-key .before .before .before .args .name .now in
     let k = at-key .key-of .ensures in
     let named = sym (at-table .before .before .is-name .ensures n refl k) ∙ not-false _ (at-table .before .if1 .left) in
-    c .entry .ensures ∙ name-found _ n _ k (at-table .read-table .ensures) (c .before .walk .ensures) named
+    c .entry-located .ensures ∙ name-found _ n _ k (at-table .read-table .ensures) (c .before .walk .ensures) named
 
 pub cpd-located-spec : {M : Type 1} → statement M
 cpd-located-spec = tie.close (tie.spec (λ c κs. search needs) (λ c κs. search needs) (λ c κs. search needs) returns (λ c κs. search needs) walk-requires (λ c κs. search needs) returns-2)

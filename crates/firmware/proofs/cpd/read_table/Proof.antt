@@ -17,7 +17,7 @@ returns-2 c =
     simp (
       le-ltb _ _ (at-wide .before .before .if1 .left),
       ← at-wide .wide .ensures .0,
-      ← c .before .before .marked .ensures,
+      ← c .before .before .has-marker .ensures,
       c .before .if2 .taken,
     )
     (c .no-table2 .ensures)
@@ -25,12 +25,12 @@ returns-2 c =
 returns-3 : tie.Need-returns-3
 unfolding tableOf Cpd.directoryNumber
 returns-3 c =
-    let at-marked = c .before .before .before .before in
-    let at-wide = at-marked .before in
+    let at-marker = c .before .before .before .before in
+    let at-wide = at-marker .before in
     simp (
       le-ltb _ _ (at-wide .before .before .if1 .left),
       ← at-wide .wide .ensures .0,
-      ← at-marked .marked .ensures,
+      ← at-marker .has-marker .ensures,
       c .before .before .before .if2 .left,
       ← c .before .before .dword-at .ensures .0,
       lt-ltb _ _ (c .before .if3 .taken),
@@ -40,12 +40,12 @@ returns-3 c =
 returns-4 : tie.Need-returns-4
 unfolding tableOf Cpd.directoryNumber
 returns-4 c =
-    let at-marked = c .before .before .before in
-    let at-wide = at-marked .before in
+    let at-marker = c .before .before .before in
+    let at-wide = at-marker .before in
     simp (
       le-ltb _ _ (at-wide .before .before .if1 .left),
       ← at-wide .wide .ensures .0,
-      ← at-marked .marked .ensures,
+      ← at-marker .has-marker .ensures,
       c .before .before .if2 .left,
       ← c .before .dword-at .ensures .0,
       le-ltb _ _ (c .if3 .left),

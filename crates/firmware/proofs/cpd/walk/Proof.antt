@@ -26,7 +26,7 @@ abbrev μ-loop : tie.MeasureT-loop
 -- the entry that is sought is the first from here on
 abbrev Inv-entries : tie.InvT-entries
 Inv-entries blob start count key first i₀ i =
-    (i ≤ count) × (walked blob key start count ≡ Cpd.first (λ k. Cpd.agrees blob key (start + 24 * k)) i (count - i))
+    (i ≤ count) × (walked blob key start count ≡ Cpd.firstFrom (λ k. Cpd.agrees blob key (start + 24 * k)) i (count - i))
 
 abbrev μ-entries : tie.MeasureT-entries
 μ-entries blob start count key first i₀ i = count - i

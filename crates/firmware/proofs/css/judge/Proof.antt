@@ -26,8 +26,8 @@ returns-2 c b l s =
     let a = sym (at-agree .agree .ensures) ∙ not-false _ (c .before .before .before .before .if1 .left) in
     c .refused2 .ensures ∙ sym (too-short b _ _ l s (at-agree .before .pre .0) a _ (c .before .if2 .taken))
 
-shown-requires-4 : tie.Need-shown-requires-4
-shown-requires-4 c κs =
+component-located-requires-4 : tie.Need-component-located-requires-4
+component-located-requires-4 c κs =
     let at-agree = c .before .before .before .before .before .before .before .before .before in
     let a = sizes-agree (at-agree .before .args .z) (sym (at-agree .agree .ensures) ∙ not-false _ (c .before .before .before .before .before .before .before .before .if1 .left)) in
     omega arith
@@ -42,7 +42,7 @@ returns-3 c b l s =
     let a = sym (at-agree .agree .ensures) ∙ not-false _ (at-there .before .before .before .if1 .left) in
     let handed = ucode-handed b _ _ l s (at-agree .before .pre .0) a (at-there .if2 .left) in
     rw (of-rank (at-agree .before .args .which) 0 (sym (at-rank .rank .ensures .0) ∙ r))
-    (c .shown .ensures ∙ sym (handed _ _ _ (omega arith) (omega arith) (omega arith)))
+    (c .component-located .ensures ∙ sym (handed _ _ _ (omega arith) (omega arith) (omega arith)))
 
 returns-4 : tie.Need-returns-4
 returns-4 c b l s =
@@ -53,7 +53,7 @@ returns-4 c b l s =
     let a = sym (at-agree .agree .ensures) ∙ not-false _ (at-there .before .before .before .if1 .left) in
     let handed = rsa-handed b _ _ l s (at-agree .before .pre .0) a (at-there .if2 .left) in
     rw (of-rank (at-agree .before .args .which) 1 (sym (at-rank .rank .ensures .0) ∙ r))
-    (c .shown2 .ensures ∙ sym (handed _ _ _ (omega arith) (omega arith) (omega arith)))
+    (c .component-located2 .ensures ∙ sym (handed _ _ _ (omega arith) (omega arith) (omega arith)))
 
 returns-5 : tie.Need-returns-5
 returns-5 c b l s =
@@ -64,7 +64,7 @@ returns-5 c b l s =
     let a = sym (at-agree .agree .ensures) ∙ not-false _ (at-there .before .before .before .if1 .left) in
     let handed = modulus-handed b _ _ l s (at-agree .before .pre .0) a (at-there .if2 .left) in
     rw (of-rank (at-agree .before .args .which) 2 (sym (at-rank .rank .ensures .0) ∙ r))
-    (c .shown3 .ensures ∙ sym (handed _ _ _ (omega arith) (omega arith) (omega arith)))
+    (c .component-located3 .ensures ∙ sym (handed _ _ _ (omega arith) (omega arith) (omega arith)))
 
 returns-6 : tie.Need-returns-6
 returns-6 c b l s =
@@ -76,7 +76,7 @@ returns-6 c b l s =
     let f = sizes-agree (at-agree .before .args .z) a in
     let handed = exponent-handed b _ _ l s (at-agree .before .pre .0) a (at-there .if2 .left) in
     rw (of-rank (at-agree .before .args .which) 3 (sym (at-rank .rank .ensures .0) ∙ r))
-    (c .shown4 .ensures ∙ sym (handed _ _ _ (omega arith) (omega arith) (omega arith)))
+    (c .component-located4 .ensures ∙ sym (handed _ _ _ (omega arith) (omega arith) (omega arith)))
 
 pub judge-spec : {M : Type 1} → statement M
-judge-spec = tie.close (tie.spec (λ c κs. search needs) (λ c κs. search needs) returns sub-rsa (λ c. search needs) (λ c. search needs) (λ c. search needs) (λ c. search needs) (λ c κs. search needs) returns-2 (λ c. search needs) (λ c. search needs) (λ c. search needs) (λ c κs. search needs) (λ c κs. search needs) returns-3 (λ c κs. search needs) returns-4 (λ c κs. search needs) returns-5 shown-requires-4 returns-6)
+judge-spec = tie.close (tie.spec (λ c κs. search needs) (λ c κs. search needs) returns sub-rsa (λ c. search needs) (λ c. search needs) (λ c. search needs) (λ c. search needs) (λ c κs. search needs) returns-2 (λ c. search needs) (λ c. search needs) (λ c. search needs) (λ c κs. search needs) (λ c κs. search needs) returns-3 (λ c κs. search needs) returns-4 (λ c κs. search needs) returns-5 component-located-requires-4 returns-6)

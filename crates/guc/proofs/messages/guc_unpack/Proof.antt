@@ -1,6 +1,6 @@
 -- `messages::guc_unpack` meets its contract. Assumes nothing.
 use mathlib.Core.Option.{Option·elim}
-use Rattle.message.specs.Words.{ofUnpacked}
+use Rattle.message.specs.Packing.{ofUnpacked}
 use Rattle.guc.specs.Messages.{unpackedBy}
 use borrow.Author.Needs.{needs}
 use Rattle.guc.proofs.messages.guc_unpack.Statement.{statement}

@@ -1,5 +1,5 @@
 -- `messages::origin_number` meets its contract. Assumes nothing.
-use Rattle.message.specs.Words.{originNumber}
+use Rattle.message.specs.Packing.{originNumber}
 use borrow.Author.Needs.{needs}
 use Rattle.guc.proofs.messages.origin_number.Statement.{statement}
 use Rattle.guc.proofs.messages.origin_number.Tie as tie

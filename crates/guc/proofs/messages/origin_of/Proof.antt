@@ -1,6 +1,6 @@
 -- `messages::origin_of` meets its contract. Assumes nothing.
 use borrow.Author.Tests.{eq-eqb, ne-eqb}
-use Rattle.message.specs.Words.{originOf}
+use Rattle.message.specs.Packing.{originOf}
 use Rattle.guc.proofs.messages.origin_of.Statement.{statement}
 use Rattle.guc.proofs.messages.origin_of.Tie as tie
 

@@ -1,6 +1,6 @@
 -- `messages::pack_message` meets its contract. Assumes nothing.
 use mathlib.Core.Option.{Option·elim}
-use Rattle.message.specs.Words.{ofPacked}
+use Rattle.message.specs.Packing.{ofPacked}
 use Rattle.guc.specs.Messages.{packedBy}
 use borrow.Author.Needs.{needs}
 use Rattle.guc.proofs.messages.pack_message.Statement.{statement}

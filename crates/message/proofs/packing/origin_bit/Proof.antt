@@ -1,6 +1,6 @@
 -- `packing::origin_bit` meets its contract, origin by origin. Assumes nothing.
 use borrow.Author.Needs.{needs}
-use Rattle.message.specs.Words.{originNumber}
+use Rattle.message.specs.Packing.{originNumber}
 use Rattle.message.proofs.packing.origin_bit.Statement.{statement}
 use Rattle.message.proofs.packing.origin_bit.Tie as tie
 

@@ -9,12 +9,12 @@ use borrow.Author.Needs.{needs}
 use borrow.Author.Tests.{ltb-true}
 use Rattle.message.specs.Fields.{fit, dword}
 use Rattle.message.specs.Types.{bodyFields}
-use Rattle.message.specs.Words.{refusing, ofPacked, originNumber}
+use Rattle.message.specs.Packing.{refusing, ofPacked, originNumber}
 use Rattle.message.specs.declared.packing.Placed.{Placed}
 use Rattle.message.specs.declared.packing.Placed.the-variants.{TooWide, Bits}
 use Rattle.message.proofs.Tests.{and-l, and-r, and-false}
 use Rattle.message.proofs.Tiling.{dword-lt}
-use Rattle.message.proofs.Words.{pack-is, body-tiles, origin-fits}
+use Rattle.message.proofs.PackLaws.{pack-is, body-tiles, origin-fits}
 use Rattle.message.proofs.packing.pack.Statement.{statement}
 use Rattle.message.proofs.packing.pack.Tie as tie
 

@@ -10,9 +10,9 @@ use borrow.Author.Needs.{needs}
 use borrow.Author.Tests.{not-true, not-false}
 use Rattle.message.specs.Types.{bodyOf}
 use Rattle.message.specs.Header.{totalLength, wellFormed, isMessage}
-use Rattle.message.specs.Words.{decoded, refusing, ofUnpacked}
+use Rattle.message.specs.Packing.{decoded, refusing, ofUnpacked}
 use Rattle.message.proofs.Formed.{message-well}
-use Rattle.message.proofs.Words.{unpack-some, unpack-none}
+use Rattle.message.proofs.PackLaws.{unpack-some, unpack-none}
 use Rattle.message.proofs.unpacking.unpack.Statement.{statement}
 use Rattle.message.proofs.unpacking.unpack.Tie as tie
 

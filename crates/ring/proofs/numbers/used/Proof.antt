@@ -1,7 +1,7 @@
 -- `numbers::used` meets its contract: the remainder is taken by a test. Assumes nothing.
 use mathlib.Core.Path.{sym}
 use borrow.Author.Needs.{needs}
-use Rattle.ring.proofs.Found.{used-up, used-round}
+use Rattle.ring.proofs.LookNeeds.{used-up, used-round}
 use Rattle.ring.proofs.numbers.used.Statement.{statement}
 use Rattle.ring.proofs.numbers.used.Tie as tie
 

@@ -8,7 +8,7 @@ use borrow.Author.Tests.{ne-eqb}
 use Rattle.ring.specs.Private.{pendingBy, pendingNumber}
 use Rattle.ring.specs.Ring.{head, status, tail, used}
 use Rattle.ring.specs.declared.numbers.InUse.{InUse}
-use Rattle.ring.proofs.Found.{by-descriptor, torn, whole}
+use Rattle.ring.proofs.LookNeeds.{by-descriptor, torn, whole}
 use Rattle.ring.proofs.receiving.pending_header.Statement.{statement}
 use Rattle.ring.proofs.receiving.pending_header.Tie as tie
 

@@ -7,8 +7,8 @@ use lib.ListN.{length, getD}
 use denote.Ref.{now}
 use borrow.Author.Needs.{needs}
 use Rattle.message.proofs.Formed.{well-formed}
-use Rattle.ring.specs.Numbers.{takeNumber}
-use Rattle.ring.specs.declared.receiving.Seen.{Seen}
+use Rattle.ring.specs.Numbers.{takeDecision}
+use Rattle.ring.specs.declared.receiving.JudgedHeader.{JudgedHeader}
 use Rattle.runs.proofs.Offsets.{past-is}
 use Rattle.runs.proofs.Straight.{laid-there-from}
 use Rattle.ring.proofs.Taken.{Taken, laid-message, taken-formed, taken-has, taken-malformed, taken-refused}
@@ -18,15 +18,15 @@ use Rattle.ring.proofs.receiving.take_message.Tie as tie
 returns : tie.Need-returns
 returns c =
     let a = c .before .before .before .before .before .args in
-    let e = sym (ap (λ (x : Seen). x .code) (c .before .take-header .ensures)) in
+    let e = sym (ap (λ (x : JudgedHeader). x .code) (c .before .take-decision .ensures)) in
     taken-refused (a .fits) (a .own) (now (a .out)) (now (a .desc)) (now (a .buf)) _ e (c .if1 .taken)
 
 -- what an accepted look has, and that the header is the message's
-zero : (c : tie.Else1) → let a = c .before .before .before .before .before .args in takeNumber (a .fits) (a .own) (length (now (a .out))) (now (a .desc)) (length (now (a .buf))) (getD (now (a .buf)) (a .own) 0) ≡ 0
-zero c = sym (ap (λ (x : Seen). x .code) (c .before .take-header .ensures)) ∙ c .if1 .left
+zero : (c : tie.Else1) → let a = c .before .before .before .before .before .args in takeDecision (a .fits) (a .own) (length (now (a .out))) (now (a .desc)) (length (now (a .buf))) (getD (now (a .buf)) (a .own) 0) ≡ 0
+zero c = sym (ap (λ (x : JudgedHeader). x .code) (c .before .take-decision .ensures)) ∙ c .if1 .left
 
-header-is : (c : tie.Else1) → let a = c .before .before .before .before .before .args in c .before .take-header .result .header ≡ getD (now (a .buf)) (a .own) 0
-header-is c = rw (zero c) at (ap (λ (x : Seen). x .header) (c .before .take-header .ensures))
+header-is : (c : tie.Else1) → let a = c .before .before .before .before .before .args in c .before .take-decision .result .header ≡ getD (now (a .buf)) (a .own) 0
+header-is c = rw (zero c) at (ap (λ (x : JudgedHeader). x .header) (c .before .take-decision .ensures))
 
 has : (c : tie.Else1) → let a = c .before .before .before .before .before .args in Taken (a .fits) (a .own) (length (now (a .out))) (now (a .desc)) (length (now (a .buf))) (getD (now (a .buf)) (a .own) 0)
 has c = taken-has _ _ _ _ _ _ (zero c)

@@ -15,8 +15,8 @@ use Rattle.ring.proofs.sending.place_message.Statement.{statement}
 use Rattle.ring.proofs.sending.place_message.Tie as tie
 
 -- the number is that of a look at the message
-number : (q : tie.After-look-number) → let a = q .before .before .before .before .before .before .args in q .look-number .result ≡ numberAt (a .fits) (a .own) (now (a .msg)) (now (a .desc)) (length (now (a .buf)))
-number q = rw (q .before .dword-at2 .ensures, q .before .before .dword-at .ensures) at (q .look-number .ensures)
+number : (q : tie.After-send-decision) → let a = q .before .before .before .before .before .before .args in q .send-decision .result ≡ numberAt (a .fits) (a .own) (now (a .msg)) (now (a .desc)) (length (now (a .buf)))
+number q = rw (q .before .dword-at2 .ensures, q .before .before .dword-at .ensures) at (q .send-decision .ensures)
 
 returns : tie.Need-returns
 returns c =

@@ -6,7 +6,7 @@ use lib.ListN.{length}
 use denote.Ref.{now}
 use borrow.Author.Needs.{needs}
 use Rattle.channel.specs.declared.state.Counts.{Counts}
-use Rattle.ring.specs.AtOnce.{ended, receive}
+use Rattle.ring.specs.AtOnce.{wholeEnd, wholeReceive}
 use Rattle.channel.specs.State.{idle}
 use Rattle.side.specs.Words.{stateOf}
 use Rattle.side.proofs.InWords.{received-own, received-whole, received-refused}
@@ -14,7 +14,7 @@ use Rattle.side.proofs.receiving.receive.Statement.{statement}
 use Rattle.side.proofs.receiving.receive.Tie as tie
 
 -- what the whole call at once says of the state in the words
-said : (q : tie.After-whole-receive) → let a = q .before .before .before .before .before .before .before .before .before .before .before .before .args in ended (q .whole-receive .result) (q .whole-receive .last .1 .1 .0) (now (a .buf)) (q .whole-receive .last .1 .1 .1 .1 .0) ≡ receive (idle (length (now (a .buf))) (stateOf (now (a .w)))) (stateOf (now (a .w)) .own) (now (a .out)) (now (a .desc)) (now (a .buf))
+said : (q : tie.After-whole-receive) → let a = q .before .before .before .before .before .before .before .before .before .before .before .before .args in wholeEnd (q .whole-receive .result) (q .whole-receive .last .1 .1 .0) (now (a .buf)) (q .whole-receive .last .1 .1 .1 .1 .0) ≡ wholeReceive (idle (length (now (a .buf))) (stateOf (now (a .w)))) (stateOf (now (a .w)) .own) (now (a .out)) (now (a .desc)) (now (a .buf))
 said q = rw (q .before .before .before .is-idle .ensures, ap (λ (x : Counts). x .own) (q .before .before .before .before .before .before .counts-of .ensures)) at (q .whole-receive .ensures)
 
 cast-w : tie.Need-cast-w

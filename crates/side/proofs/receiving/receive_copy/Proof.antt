@@ -17,7 +17,7 @@ use Rattle.side.proofs.receiving.receive_copy.Tie as tie
 -- the number is that of a move
 number : (q : tie.After-receiving-number) → let a = q .before .before .before .before .before .before .before .before .before .args in q .receiving-number .result ≡ Receive.moveNumber (stateOf (now (a .w))) (now (a .desc)) (now (a .buf))
 unfolding Receive.moveNumber
-number q = rw (q .before .before .refuse .ensures, q .before .before .before .before .counts-of .ensures, words-receiving) at (q .receiving-number .ensures)
+number q = rw (q .before .before .need .ensures, q .before .before .before .before .counts-of .ensures, words-receiving) at (q .receiving-number .ensures)
 
 returns : tie.Need-returns
 unfolding Receive.moveBy

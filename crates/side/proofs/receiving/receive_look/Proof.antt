@@ -5,8 +5,8 @@ use denote.Ref.{now}
 use borrow.Author.Needs.{needs}
 use borrow.Author.Tests.{ne-eqb}
 use Rattle.ring.specs.Numbers.{receiveDecision}
-use Rattle.ring.specs.AtOnce.{seen}
-use Rattle.ring.specs.declared.receiving.Seen.{Seen}
+use Rattle.ring.specs.AtOnce.{judgedHeader}
+use Rattle.ring.specs.declared.receiving.JudgedHeader.{JudgedHeader}
 use Rattle.ring.proofs.Chains.{entered-fits}
 use Rattle.channel.specs.Receive
 use Rattle.channel.specs.declared.state.Counts.{Counts}
@@ -16,13 +16,13 @@ use Rattle.side.proofs.receiving.receive_look.Statement.{statement}
 use Rattle.side.proofs.receiving.receive_look.Tie as tie
 
 -- what the look answers
-said : (q : tie.After-look-header) → let a = q .before .before .before .before .before .before .before .before .before .before .args in q .look-header .result ≡ seen (Receive.lookNumber (stateOf (now (a .w))) (now (a .desc)) (now (a .buf))) (stateOf (now (a .w)) .own) (now (a .buf))
-said q = rw (q .before .before .is-idle .ensures, ap (λ (x : Counts). x .own) (q .before .before .before .before .before .counts-of .ensures)) at (q .look-header .ensures)
+said : (q : tie.After-receive-decision) → let a = q .before .before .before .before .before .before .before .before .before .before .args in q .receive-decision .result ≡ judgedHeader (Receive.lookNumber (stateOf (now (a .w))) (now (a .desc)) (now (a .buf))) (stateOf (now (a .w)) .own) (now (a .buf))
+said q = rw (q .before .before .is-idle .ensures, ap (λ (x : Counts). x .own) (q .before .before .before .before .before .counts-of .ensures)) at (q .receive-decision .ensures)
 
 returns : tie.Need-returns
 unfolding Receive.lookBy
 returns c =
-    let e = ap (λ (x : Seen). x .code) (said (c .before .before .before .before .before)) in
+    let e = ap (λ (x : JudgedHeader). x .code) (said (c .before .before .before .before .before)) in
     simp (← e, ne-eqb _ _ (c .before .before .before .before .if1 .taken), c .before .before .mark .ensures)
 
 returns-2 : tie.Need-returns-2
@@ -32,10 +32,10 @@ returns-2 c =
     let a = q .before .before .before .before .before .before .before .before .before .before .args in
     let w = now (a .w) in
     let s = said q in
-    let z : Receive.lookNumber (stateOf w) (now (a .desc)) (now (a .buf)) ≡ 0 = sym (ap (λ (x : Seen). x .code) s) ∙ c .before .if1 .left in
-    let h : q .look-header .result .header ≡ getD (now (a .buf)) (stateOf w .own) 0 = rw z at (ap (λ (x : Seen). x .header) s) in
+    let z : Receive.lookNumber (stateOf w) (now (a .desc)) (now (a .buf)) ≡ 0 = sym (ap (λ (x : JudgedHeader). x .code) s) ∙ c .before .if1 .left in
+    let h : q .receive-decision .result .header ≡ getD (now (a .buf)) (stateOf w .own) 0 = rw z at (ap (λ (x : JudgedHeader). x .header) s) in
     let i = idle-words _ w (search needs) (entered-fits _ _ _ _ 0 refl refl refl z) in
-    let g = header-set (c .total-length .result) (q .look-header .result .header) w (search needs) i (c .total-length .ensures) ∙ ap (Receive.loaded (stateOf w)) h in
+    let g = header-set (c .total-length .result) (q .receive-decision .result .header) w (search needs) i (c .total-length .ensures) ∙ ap (Receive.loaded (stateOf w)) h in
     looked-receive w (now (a .desc)) (now (a .buf)) _ _ 0 (sym z) refl (sym (marked-none (now (a .desc)))) g
 
 pub receive-look-spec : {M : Type 1} → statement M

@@ -4,7 +4,7 @@ use lib.ListN.{length}
 use denote.Ref.{now}
 use borrow.Author.Needs.{needs}
 use borrow.Author.Tests.{ne-eqb}
-use Rattle.ring.specs.Numbers.{entry, need}
+use Rattle.ring.specs.Numbers.{firstNeeds, need}
 use Rattle.channel.specs.Send
 use Rattle.channel.specs.State.{activeSend}
 use Rattle.channel.specs.declared.state.Counts.{Counts}
@@ -16,7 +16,7 @@ use Rattle.side.proofs.sending.publish_at.Statement.{statement}
 use Rattle.side.proofs.sending.publish_at.Tie as tie
 
 -- the number is that of a publish
-number : (q : tie.After-sending-number) → let a = q .before .before .before .before .before .before .before .before .args in let s = stateOf (now (a .w)) in q .sending-number .result ≡ entry (length (now (a .desc))) (a .n) (activeSend (a .n) s) (need (leb (s .len) (s .moved)) 12 0)
+number : (q : tie.After-sending-number) → let a = q .before .before .before .before .before .before .before .before .args in let s = stateOf (now (a .w)) in q .sending-number .result ≡ firstNeeds (length (now (a .desc))) (a .n) (activeSend (a .n) s) (need (leb (s .len) (s .moved)) 12 0)
 number q = rw (q .before .before .before .before .counts-of .ensures, words-sending) at (q .sending-number .ensures)
 
 returns : tie.Need-returns

@@ -7,7 +7,7 @@ use denote.Ref.{now}
 use borrow.Author.Needs.{needs}
 use borrow.Author.Tests.{ne-eqb}
 use Rattle.channel.specs.declared.state.Counts.{Counts}
-use Rattle.ring.specs.AtOnce.{ended, send}
+use Rattle.ring.specs.AtOnce.{wholeEnd, wholeSend}
 use Rattle.channel.specs.State.{idle}
 use Rattle.side.specs.Words.{stateOf}
 use Rattle.side.proofs.InWords.{sent-own, sent-whole, sent-refused}
@@ -16,7 +16,7 @@ use Rattle.side.proofs.sending.send.Statement.{statement}
 use Rattle.side.proofs.sending.send.Tie as tie
 
 -- what the whole call at once says of the state in the words
-said : (q : tie.After-whole-send) → let a = q .before .before .before .before .before .before .before .before .before .before .before .before .args in ended (q .whole-send .result) (q .whole-send .last .1 .1 .0) (q .whole-send .last .1 .1 .1 .0) [] ≡ send (idle (length (now (a .buf))) (stateOf (now (a .w)))) (stateOf (now (a .w)) .own) (now (a .msg)) (now (a .desc)) (now (a .buf))
+said : (q : tie.After-whole-send) → let a = q .before .before .before .before .before .before .before .before .before .before .before .before .args in wholeEnd (q .whole-send .result) (q .whole-send .last .1 .1 .0) (q .whole-send .last .1 .1 .1 .0) [] ≡ wholeSend (idle (length (now (a .buf))) (stateOf (now (a .w)))) (stateOf (now (a .w)) .own) (now (a .msg)) (now (a .desc)) (now (a .buf))
 said q = rw (q .before .before .before .is-idle .ensures, ap (λ (x : Counts). x .own) (q .before .before .before .before .before .before .counts-of .ensures)) at (q .whole-send .ensures)
 
 cast-w : tie.Need-cast-w

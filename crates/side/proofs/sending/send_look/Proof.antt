@@ -20,9 +20,9 @@ use Rattle.side.proofs.sending.send_look.Statement.{statement}
 use Rattle.side.proofs.sending.send_look.Tie as tie
 
 -- the number is that of a look at the message
-number : (q : tie.After-look-number) → let a = q .before .before .before .before .before .before .before .before .before .before .before .before .before .args in q .look-number .result ≡ Send.lookNumber (stateOf (now (a .w))) (now (a .msg)) (now (a .desc)) (now (a .buf))
+number : (q : tie.After-send-decision) → let a = q .before .before .before .before .before .before .before .before .before .before .before .before .before .args in q .send-decision .result ≡ Send.lookNumber (stateOf (now (a .w))) (now (a .msg)) (now (a .desc)) (now (a .buf))
 number q =
-    rw (q .before .before .dword-at2 .ensures, q .before .before .before .dword-at .ensures, q .before .before .before .before .is-idle .ensures, ap (λ (x : Counts). x .own) (q .before .before .before .before .before .before .before .counts-of .ensures)) at (q .look-number .ensures)
+    rw (q .before .before .dword-at2 .ensures, q .before .before .before .dword-at .ensures, q .before .before .before .before .is-idle .ensures, ap (λ (x : Counts). x .own) (q .before .before .before .before .before .before .before .counts-of .ensures)) at (q .send-decision .ensures)
 
 returns : tie.Need-returns
 unfolding Send.lookBy

@@ -16,7 +16,7 @@ use Rattle.channel.proofs.receiving.Receiver.copy.Tie as tie
 
 returns : tie.Need-returns
 unfolding moveNumber moveBy ofReceiver
-returns c = simp (← c .before .before .refuse .ensures, ← c .before .go-on-number .ensures, ne-eqb _ _ (c .if1 .taken))
+returns c = simp (← c .before .before .need .ensures, ← c .before .go-on-number .ensures, ne-eqb _ _ (c .if1 .taken))
 
 -- what the number 0 says: the state is active and fits, and there is a dword more
 fits : (c : tie.Else1) → let a = c .before .before .before .before .before .before .args in Going (length (now (a .buf))) (ofReceiver (a .self))
@@ -25,7 +25,7 @@ fits c = going-receive _ _ _ _ 0 refl refl refl (sym (c .before .go-on-number .e
 more : (c : tie.Else1) → let s = c .before .before .before .before .before .before .args .self in s .moved < s .len
 more c =
     let e = entered-rest _ _ _ _ 0 refl refl refl (sym (c .before .go-on-number .ensures) ∙ c .if1 .left) in
-    ltb-true _ _ (passed _ 12 0 0 refl (sym (c .before .before .refuse .ensures) ∙ e))
+    ltb-true _ _ (passed _ 12 0 0 refl (sym (c .before .before .need .ensures) ∙ e))
 
 -- the place that it is copied to is one of 256
 in-copy : (c : tie.Else1) → c .before .before .before .before .before .before .args .self .moved < 256
@@ -45,7 +45,7 @@ returns-2 : tie.Need-returns-2
 unfolding moveNumber moveBy ofReceiver
 returns-2 c =
     let e = c .before .before in
-    simp (← e .before .before .refuse .ensures, ← e .before .go-on-number .ensures, e .if1 .left, c .dword-at .ensures, c .before .past .ensures .0, going-place _ _ (fits e))
+    simp (← e .before .before .need .ensures, ← e .before .go-on-number .ensures, e .if1 .left, c .dword-at .ensures, c .before .past .ensures .0, going-place _ _ (fits e))
 
 pub copy-spec : {M : Type 1} → statement M
 copy-spec =

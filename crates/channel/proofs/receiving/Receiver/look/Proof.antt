@@ -4,22 +4,22 @@ use denote.Ref.{now}
 use borrow.Author.Needs.{needs}
 use borrow.Author.Tests.{ne-eqb}
 use Rattle.ring.specs.Numbers.{marked}
-use Rattle.ring.specs.AtOnce.{seen}
-use Rattle.ring.specs.declared.receiving.Seen.{Seen}
+use Rattle.ring.specs.AtOnce.{judgedHeader}
+use Rattle.ring.specs.declared.receiving.JudgedHeader.{JudgedHeader}
 use Rattle.channel.specs.Receive
 use Rattle.channel.specs.State.{ofReceiver, zeros}
 use Rattle.channel.proofs.receiving.Receiver.look.Statement.{statement}
 use Rattle.channel.proofs.receiving.Receiver.look.Tie as tie
 
 -- what the look answers
-said : (q : tie.After-look-header) → let a = q .before .before .before .before .before .args in q .look-header .result ≡ seen (Receive.lookNumber (ofReceiver (a .self)) (now (a .desc)) (now (a .buf))) (a .self .own) (now (a .buf))
+said : (q : tie.After-receive-decision) → let a = q .before .before .before .before .before .args in q .receive-decision .result ≡ judgedHeader (Receive.lookNumber (ofReceiver (a .self)) (now (a .desc)) (now (a .buf))) (a .self .own) (now (a .buf))
 unfolding ofReceiver
-said q = rw (q .before .before .is-idle .ensures) at (q .look-header .ensures)
+said q = rw (q .before .before .is-idle .ensures) at (q .receive-decision .ensures)
 
 returns : tie.Need-returns
 unfolding Receive.lookBy
 returns c =
-    let e = ap (λ (x : Seen). x .code) (said (c .before .before .before .before .before)) in
+    let e = ap (λ (x : JudgedHeader). x .code) (said (c .before .before .before .before .before)) in
     simp (← e, ne-eqb _ _ (c .before .before .before .before .if1 .taken), c .before .before .mark .ensures)
 
 returns-2 : tie.Need-returns-2
@@ -27,8 +27,8 @@ unfolding Receive.lookBy ofReceiver marked zeros
 returns-2 c =
     let s = said (c .before .before .before) in
     let a = c .before .before .before .before .before .before .before .before .args in
-    let z : Receive.lookNumber (ofReceiver (a .self)) (now (a .desc)) (now (a .buf)) ≡ 0 = sym (ap (λ (x : Seen). x .code) s) ∙ c .before .before .if1 .left in
-    let h = rw z at (ap (λ (x : Seen). x .header) s) in
+    let z : Receive.lookNumber (ofReceiver (a .self)) (now (a .desc)) (now (a .buf)) ≡ 0 = sym (ap (λ (x : JudgedHeader). x .code) s) ∙ c .before .before .if1 .left in
+    let h = rw z at (ap (λ (x : JudgedHeader). x .header) s) in
     rw (z, c .total-length .ensures, h, c .before .no-copy .ensures)
 
 pub look-spec : {M : Type 1} → statement M

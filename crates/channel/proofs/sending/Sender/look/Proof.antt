@@ -16,9 +16,9 @@ use Rattle.channel.proofs.sending.Sender.look.Statement.{statement}
 use Rattle.channel.proofs.sending.Sender.look.Tie as tie
 
 -- the number is that of a look at the message
-number : (q : tie.After-look-number) → let a = q .before .before .before .before .before .before .before .before .args in q .look-number .result ≡ Send.lookNumber (ofSender (a .self)) (now (a .msg)) (now (a .desc)) (now (a .buf))
+number : (q : tie.After-send-decision) → let a = q .before .before .before .before .before .before .before .before .args in q .send-decision .result ≡ Send.lookNumber (ofSender (a .self)) (now (a .msg)) (now (a .desc)) (now (a .buf))
 unfolding ofSender
-number q = rw (q .before .before .is-idle .ensures, q .before .before .before .dword-at2 .ensures, q .before .before .before .before .dword-at .ensures) at (q .look-number .ensures)
+number q = rw (q .before .before .is-idle .ensures, q .before .before .before .dword-at2 .ensures, q .before .before .before .before .dword-at .ensures) at (q .send-decision .ensures)
 
 returns : tie.Need-returns
 unfolding Send.lookBy
@@ -28,11 +28,11 @@ returns c = simp (← number (c .before .before .before .before .before), ne-eqb
 has : (c : tie.Else1) → let a = c .before .before .before .before .before .before .before .before .before .args in Accepted (idle (length (now (a .buf))) (ofSender (a .self))) (ofSender (a .self) .own) (now (a .msg)) (now (a .desc)) (length (now (a .buf)))
 has c = accepted _ _ _ _ _ (sym (number (c .before)) ∙ c .if1 .left)
 
-sub-loaded : tie.Need-sub-loaded
-sub-loaded c = message-long _ (has c .is-message)
+sub-message-copy : tie.Need-sub-message-copy
+sub-message-copy c = message-long _ (has c .is-message)
 
-part-loaded-start : tie.Need-part-loaded-start
-part-loaded-start c = message-long _ (has c .is-message)
+part-message-copy-start : tie.Need-part-message-copy-start
+part-message-copy-start c = message-long _ (has c .is-message)
 
 returns-2 : tie.Need-returns-2
 unfolding Send.lookBy ofSender marked
@@ -40,7 +40,7 @@ returns-2 c =
     let looked = c .before .before in
     let m = now (looked .before .before .before .before .before .before .before .before .before .args .msg) in
     let f = has looked .is-message in
-    let e = rw (looked .before .before .before .before .dword-at2 .ensures, looked .before .before .before .before .before .dword-at .ensures, two-and-rest m (message-long m f)) at (c .loaded .ensures) in
+    let e = rw (looked .before .before .before .before .dword-at2 .ensures, looked .before .before .before .before .before .dword-at .ensures, two-and-rest m (message-long m f)) at (c .message-copy .ensures) in
     simp (sym (number (looked .before)) ∙ looked .if1 .left, e ∙ loaded-zeros m (message-short m f))
 
 pub look-spec : {M : Type 1} → statement M
@@ -54,8 +54,8 @@ look-spec =
     (λ c κs. search needs)
     (λ c. search needs)
     returns
-    sub-loaded
-    part-loaded-start
+    sub-message-copy
+    part-message-copy-start
     (λ c. search needs)
     (λ c κs. search needs)
     (λ c. search needs)

@@ -1,12 +1,12 @@
--- `cpd::entry` meets its contract. Assumes nothing.
+-- `cpd::entry_located` meets its contract. Assumes nothing.
 use Prim.Native.Nat.{ℕ, _%_, _^_}
 use mathlib.Core.Path.{sym, ap, _∙_}
 use native.Mathlib.Omega.{arith}
 use Rattle.firmware.proofs.Lies.{table-room}
 use Rattle.firmware.proofs.Read.{entry-own, entry-none, entry-beyond, entry-there}
 use borrow.Author.Needs.{needs}
-use Rattle.firmware.proofs.cpd.entry.Statement.{statement}
-use Rattle.firmware.proofs.cpd.entry.Tie as tie
+use Rattle.firmware.proofs.cpd.entry_located.Statement.{statement}
+use Rattle.firmware.proofs.cpd.entry_located.Tie as tie
 
 returns : tie.Need-returns
 returns c = c .refused .ensures ∙ sym (entry-own _ (c .before .before .before .pre) _ (c .before .if1 .taken))
@@ -48,5 +48,5 @@ returns-4 c =
     let there = entry-there _ (at-index .before .before .before .before .pre) (at-index .before .before .if1 .left) _ (at-index .if2 .left) in
     sym (there _ _ offset (at-fields .dword-at2 .ensures .0) (c .if3 .left))
 
-pub entry-spec : {M : Type 1} → statement M
-entry-spec = tie.close (tie.spec (λ c κs. search needs) returns (λ c κs. search needs) returns-2 mul-at add-at add-dword-at dword-at-requires add-dword-at-2 dword-at-requires-2 (λ c. search needs) (λ c κs. search needs) returns-3 returns-4)
+pub entry-located-spec : {M : Type 1} → statement M
+entry-located-spec = tie.close (tie.spec (λ c κs. search needs) returns (λ c κs. search needs) returns-2 mul-at add-at add-dword-at dword-at-requires add-dword-at-2 dword-at-requires-2 (λ c. search needs) (λ c κs. search needs) returns-3 returns-4)

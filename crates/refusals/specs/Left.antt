@@ -12,16 +12,16 @@ use Rattle.channel.specs.Outcome.{Outcome}
 use Rattle.channel.specs.Opening.{Opening}
 use Rattle.channel.specs.Operations.{Op, sendLook, sendMove, sendPublish, sendWhole, receiveLook, receiveMove, receivePublish, receiveWhole}
 
--- the column 'Leaves', of the descriptor: 7 'STATUS = 1', 8 'STATUS = 4', 9 'STATUS = 2', 13 'HEAD moved', here to the offset behind, else 'all'
-unfoldable pub leaves : ℕ → ℕ → List ℕ → List ℕ
-leaves number behind d =
+-- the column 'Leaves', of the descriptor: 7 'STATUS = 1', 8 'STATUS = 4', 9 'STATUS = 2', 13 'HEAD moved', to the offset past the message, else 'all'
+unfoldable pub descriptorLeft : ℕ → ℕ → List ℕ → List ℕ
+descriptorLeft number past d =
     cond (eqb number 7) (set d STATUS overflow)
     (cond (eqb number 8) (set d STATUS mismatch)
-    (cond (eqb number 9) (set d STATUS underflow) (cond (eqb number 13) (set d HEAD behind) d)))
+    (cond (eqb number 9) (set d STATUS underflow) (cond (eqb number 13) (set d HEAD past) d)))
 
 -- 'The state comes back unchanged, except after 13, where it is idle past the message.'
 unfoldable pub stateLeft : ℕ → ℕ → State → State
-stateLeft number behind s = cond (eqb number 13) (idleAt (s .n) behind) s
+stateLeft number past s = cond (eqb number 13) (idleAt (s .n) past) s
 
 -- the L of the message that a 13 passes over: of the copied one at a publish, of the one at the own head in a whole receive. No other operation answers 13
 abbrev pub passedOver : Op → State → List ℕ → ℕ
@@ -35,8 +35,8 @@ passedOver (receivePublish o) s b = s .len
 passedOver (receiveWhole o) s b = totalLength (getD b (s .own) 0)
 
 -- 'HEAD = (own head + L) mod N'
-abbrev pub behindIt : Op → State → List ℕ → ℕ
-behindIt op s b = (s .own + passedOver op s b) % length b
+abbrev pub offsetPast : Op → State → List ℕ → ℕ
+offsetPast op s b = (s .own + passedOver op s b) % length b
 
 -- the output that is lent to an operation, or no dword
 abbrev pub output : Op → List ℕ
@@ -51,8 +51,8 @@ output (receiveWhole o) = o
 
 -- a refused operation. 'Only 7, 8, 9 and 13 change lent memory', and of that only the descriptor
 pub record OperationRefused (op : Op) (s : State) (d b : List ℕ) (x : Outcome) : Type 0 where
-  pub state : x .next ≡ stateLeft (x .code) (behindIt op s b) s
-  pub descriptor : x .desc ≡ leaves (x .code) (behindIt op s b) d
+  pub state : x .next ≡ stateLeft (x .code) (offsetPast op s b) s
+  pub descriptor : x .desc ≡ descriptorLeft (x .code) (offsetPast op s b) d
   pub buffer : x .buf ≡ b
   pub unlaid : x .out ≡ output op
   -- 'L, which is 0 on a refusal'

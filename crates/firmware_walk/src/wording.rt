@@ -1,5 +1,5 @@
 // The words and numbers that the lines are made of, and document 01's rule behind each number that says no.
-use firmware::Answer;
+use firmware::ImageAnswer;
 use firmware::Located;
 use firmware::ManifestVersion;
 use firmware::Version;
@@ -51,7 +51,7 @@ fn rule(code: u32) {
 }
 
 // What an image was answered.
-pub(crate) fn image_verdict(a: Answer) {
+pub(crate) fn image_verdict(a: ImageAnswer) {
     verdict(a.code);
     if a.code == 0 {
         told(a.truncated, b", truncated", b", whole");

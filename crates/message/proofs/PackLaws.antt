@@ -10,7 +10,7 @@ use lib.Dec.{ltb, leb}
 use Rattle.message.specs.Fields.{fit, dword}
 use Rattle.message.specs.Types.{carried, bodyFields, bodyOf}
 use Rattle.message.specs.Header.{isMessage}
-use Rattle.message.specs.Words.{originNumber, headerFields, hxgFields, pack, decoded, unpack}
+use Rattle.message.specs.Packing.{originNumber, headerFields, hxgFields, pack, decoded, unpack}
 use Rattle.message.specs.declared.Origin.{Origin}
 use Rattle.message.specs.declared.Origin.the-variants.{Host, Guc}
 use Rattle.message.specs.declared.Body.{Body}

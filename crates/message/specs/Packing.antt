@@ -5,7 +5,7 @@ use mathlib.Core.List.{List, [], _∷_}
 use mathlib.Core.Option.{Option, none, some, Option·elim}
 use lib.ListN.{getD}
 use lib.Dec.{eqb, leb}
-use Rattle.message.specs.Fields.{Field, fence, format, reserved, numDwords, origin, fieldOf, Entry, fit, dword}
+use Rattle.message.specs.Fields.{Field, fence, format, reserved, numDwords, origin, fieldOf, FieldValue, fit, dword}
 use Rattle.message.specs.Types.{bodyFields, bodyOf}
 use Rattle.message.specs.Header.{isMessage}
 use Rattle.message.specs.declared.Origin.{Origin}
@@ -37,10 +37,10 @@ unpack dwords =
     none
 
 -- the fields of the header and of the HXG dword 0, with a message's number for each
-unfoldable pub headerFields : Message → List Entry
+unfoldable pub headerFields : Message → List FieldValue
 headerFields m = (fence, m .fence) ∷ (format, 0) ∷ (reserved, 0) ∷ (numDwords, m .«num_dwords») ∷ []
 
-unfoldable pub hxgFields : Message → List Entry
+unfoldable pub hxgFields : Message → List FieldValue
 hxgFields m = (origin, originNumber (m .origin)) ∷ bodyFields (m .body)
 
 -- 'Packing gives the first two dwords and refuses any field too wide for its place and NUM_DWORDS 0.'
