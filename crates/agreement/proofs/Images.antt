@@ -5,10 +5,10 @@ use mathlib.Core.Logic.{_↔_}
 use mathlib.Core.Bool.{Bool, true, false, not, _&&_, cond}
 use mathlib.Core.List.{List, []}
 use native.Mathlib.Omega.{arith}
-use lib.ListN.{length, take, drop}
+use lib.ListN.{length}
 use lib.Dec.{eqb, leb, ltb}
-use borrow.Author.Tests.{eq-eqb, eqb-true, ne-eqb, leb-true, leb-false, le-leb, lt-leb, not-true}
-use denote.Ref.{RefT, ptr, now}
+use borrow.Author.Tests.{eq-eqb, eqb-true, ne-eqb, leb-false, le-leb, le-ltb, lt-leb, lt-ltb, not-true}
+use denote.Ref.{RefT, now}
 use Rattle.firmware.specs.Bytes.{PartOf, Span, nowhere, placed}
 use Rattle.firmware.specs.Css
 use Rattle.firmware.specs.Version.{cssReading, cssVersion, reading}
@@ -18,18 +18,15 @@ use Rattle.firmware.specs.declared.css.Component.the-variants.{Ucode, Rsa, Modu
 use Rattle.firmware.proofs.Lies.{Accepted, css-accepted, css-lies, located-ends}
 use Rattle.firmware.proofs.Nowhere.{image-nowhere}
 use Rattle.firmware.proofs.Tests.{both}
-use Rattle.agreement.specs.Images.{At, EmptyAtStart, ImageAccepted, Images, e, end, h, k, m, s}
+use Rattle.agreement.specs.Images.{At, EmptyAtStart, ImageParts, Images, IsImage, VeryBytes, e, end, h, k, m, s}
 
 -- a location that is nowhere
 pub empty-at-start : (number : ℕ) (t : Bool) (l : Located) → l ≡ placed number t nowhere → EmptyAtStart number l
 empty-at-start number t l q = rw q (record { code = refl; at-start = refl; empty = refl })
 
 -- what is handed back for a place is the located bytes, where they lie
-pub very-bytes : (number : ℕ) (t : Bool) (p : Span) (blob part : RefT (List ℕ)) → PartOf blob p part
-    → (now part ≡ take (placed number t p .len) (drop (placed number t p .start) (now blob)))
-    × (ptr part .0 ≡ ptr blob .0)
-    × (ptr part .1 ≡ placed number t p .start + ptr blob .1)
-very-bytes number t p blob part x = (x .same-bytes, x .same-block, x .same-place)
+pub very-bytes : (number : ℕ) (t : Bool) (p : Span) (blob part : RefT (List ℕ)) → PartOf blob p part → VeryBytes blob (placed number t p) part
+very-bytes number t p blob part x = record { bytes = x .same-bytes; block = x .same-block; place = x .same-place }
 
 -- an image that is accepted
 module _ (b : List ℕ) (z : Css.number b ≡ 0) where
@@ -109,15 +106,15 @@ module _ (b : List ℕ) (z : Css.number b ≡ 0) where
       omega
       (arith, f .sum, f .above, ucode-at .starts, ucode-at .bytes, rsa-at .starts, rsa-at .bytes, modulus-at l .starts, modulus-at l .bytes, exponent-at l .starts, exponent-at l .bytes)
 
-  pub image-accepted : ImageAccepted b
+  is-image : IsImage b
+  unfolding Css.sizes
+  is-image =
+      record { has-header = facts .has-header; sum = facts .sum; has-rsa = facts .has-rsa; has-ucode = facts .above; there = facts .there }
+
+  image-parts : ImageParts b
   unfolding Css.sizes Css.shown cssReading reading
-  image-accepted =
+  image-parts =
       record {
-        has-header = facts .has-header;
-        sum = facts .sum;
-        has-rsa = facts .has-rsa;
-        has-ucode = facts .above;
-        there = facts .there;
         ucode = ucode-at;
         rsa = rsa-at;
         modulus = modulus-at;
@@ -128,6 +125,13 @@ module _ (b : List ℕ) (z : Css.number b ≡ 0) where
         reading-code = z;
         reading = rw is-accepted refl;
       }
+
+-- the other way: what is an image is accepted
+image-passes : (b : List ℕ) → IsImage b → Css.number b ≡ 0
+unfolding Css.number Css.agree Css.sizes
+image-passes b x =
+    simp
+    (le-ltb (length b) 128 (x .has-header), eq-eqb (h b) (32 + k b + m b + e b) (x .sum), le-leb 1 (k b) (x .has-rsa), lt-ltb (h b) (s b) (x .has-ucode), le-ltb (length b) (128 + 4 * (s b - h b) + 4 * k b) (x .there))
 
 -- ---- every blob
 
@@ -144,9 +148,11 @@ pub images : Images
 unfolding cssReading reading
 images =
     record {
-      accepted = image-accepted;
+      exactly = λ b. (is-image b, image-passes b);
+      parts = image-parts;
       truncated = λ which b. says-truncated b;
       same-number = λ which b. refl;
+      same-answer = λ which b. (refl, refl);
       same-reading = λ b. refl;
       refused = λ which b z. empty-at-start (Css.number b) false _ (image-nowhere b which (ne-eqb (Css.number b) 0 z));
       no-version = λ b z. rw (ne-eqb (Css.number b) 0 z);

@@ -1,18 +1,18 @@
 -- Code partition directories agree with document 01, 'Firmware images': the part of a name, and the manifest and the image inside.
 use Prim.Native.Nat.{ℕ, _+_, _*_, _%_, _≤_, _<_, _^_}
 use mathlib.Core.Path.{_≡_}
-use mathlib.Core.Bool.{true, false}
+use mathlib.Core.Logic.{_↔_}
+use mathlib.Core.Bool.{false}
 use mathlib.Core.List.{List, [], _∷_}
-use lib.ListN.{length, getD, take, drop}
-use denote.Ref.{RefT, ptr, now}
-use Rattle.firmware.specs.Bytes.{PartOf, dwordAt, wordAt}
+use lib.ListN.{length, getD}
+use denote.Ref.{RefT, now}
+use Rattle.firmware.specs.Bytes.{PartOf, dwordAt, span, wordAt}
 use Rattle.firmware.specs.Css
 use Rattle.firmware.specs.Cpd
-use Rattle.firmware.specs.Inside.{manifestName, hucName, hucNumber, hucLocated, hucPlace, manifestNumber}
+use Rattle.firmware.specs.Inside.{manifestName, hucAnswer, hucName, hucNumber, hucLocated, hucPlace}
 use Rattle.firmware.specs.Version.{cssReading, hucReading, manifestReading}
-use Rattle.firmware.specs.declared.bytes.Located.{Located}
 use Rattle.firmware.specs.declared.css.Component.{Component}
-use Rattle.agreement.specs.Images.{At, EmptyAtStart, end}
+use Rattle.agreement.specs.Images.{At, EmptyAtStart, VeryBytes, bytesOf, end}
 
 -- 'Entries start at byte H': the byte where entry i starts; 'header length H is the byte at 10'
 abbrev pub entryAt : List ℕ → ℕ → ℕ
@@ -22,20 +22,43 @@ entryAt b i = getD b 10 0 + 24 * i
 abbrev pub HasName : List ℕ → List ℕ → ℕ → Type 0
 HasName b name i = (j : ℕ) → j < 12 → getD b (entryAt b i + j) 0 ≡ getD name j 0
 
--- the entry of that name which a seek answers
-pub record Sought (b name : List ℕ) : Type 0 where
-  pub i : ℕ
-  -- 'entry count n is the dword at 4'
+-- 'name to seek not 1 to 12 bytes without a zero': one that may be sought
+pub record IsName (name : List ℕ) : Type 0 where
+  pub one : 1 ≤ length name
+  pub twelve : length name ≤ 12
+  pub no-zero : (j : ℕ) → j < length name → getD name j 0 ≡ 0 → ⊥
+
+-- 'at least 20 bytes'; 'bytes 0 to 3 are 24 43 50 44 hex; entry count n is the dword at 4; header length H is the byte at 10'; 'H + 24n bytes must be there'
+pub record IsDirectory (b : List ℕ) : Type 0 where
+  pub has-header : 20 ≤ length b
+  pub marker-0 : getD b 0 0 ≡ 0x24
+  pub marker-1 : getD b 1 0 ≡ 0x43
+  pub marker-2 : getD b 2 0 ≡ 0x50
+  pub marker-3 : getD b 3 0 ≡ 0x44
+  pub header-length : 20 ≤ getD b 10 0
+  pub there : getD b 10 0 + 24 * dwordAt b 4 ≤ length b
+
+-- 'offset dword (bits 24:0 count), length dword' of the entry at that byte
+abbrev pub offsetAt : List ℕ → ℕ → ℕ
+offsetAt b at = dwordAt b (at + 12) % 2 ^ 25
+
+abbrev pub sizeAt : List ℕ → ℕ → ℕ
+sizeAt b at = dwordAt b (at + 16)
+
+-- an entry that has a part in the blob
+pub record EntryThere (b : List ℕ) (i : ℕ) : Type 0 where
+  pub of-directory : IsDirectory b
   pub an-entry : i < dwordAt b 4
+  pub part-there : offsetAt b (entryAt b i) + sizeAt b (entryAt b i) ≤ length b
+
+-- the entry that a seek answers
+pub record Sought (b name : List ℕ) : Type 0 where
+  pub may-be-sought : IsName name
+  pub i : ℕ
+  pub entry : EntryThere b i
   -- 'The walk ends at the first entry whose twelve bytes agree.'
   pub named : HasName b name i
   pub first : (j : ℕ) → j < i → HasName b name j → ⊥
-  -- 'offset dword (bits 24:0 count), length dword'; 'Its part starts at the offset from the blob's start.'
-  pub part : At (dwordAt b (entryAt b i + 12) % 2 ^ 25) (dwordAt b (entryAt b i + 16)) (Cpd.located b name)
-
--- the bytes of a part that is located
-abbrev pub bytesOf : List ℕ → Located → List ℕ
-bytesOf b l = take (l .len) (drop (l .start) b)
 
 -- the image in `huc_fw`, where the directory's own numbers pass, 'is judged by the CSS rules as a blob of its own'
 pub record HucInside (b : List ℕ) (image : List ℕ) (start : ℕ) : Type 0 where
@@ -44,7 +67,7 @@ pub record HucInside (b : List ℕ) (image : List ℕ) (start : ℕ) : Type 0 wh
   pub component-number : (which : Component) → hucLocated which b .code ≡ Css.located which image .code
   pub component-truncated : (which : Component) → hucLocated which b .truncated ≡ Css.located which image .truncated
   pub component-length : (which : Component) → hucLocated which b .len ≡ Css.located which image .len
-  -- a component that is shown lies as far behind the part's start as it lies behind the image's; one that is not is at the outer blob's start
+  -- a component that is shown starts as many bytes past the part's start as it does past the image's; one that is not is at the outer blob's start
   pub component-start :
       (which : Component) → (Css.located which image .start ≡ 0 → ⊥)
       → hucLocated which b .start ≡ start + Css.located which image .start
@@ -60,17 +83,32 @@ pub record ManifestInside (b : List ℕ) (part : List ℕ) : Type 0 where
 
 -- of every blob and name
 pub record Directories : Type 0 where
-  pub sought : (b name : List ℕ) → Cpd.number b name ≡ 0 → Sought b name
+  -- accepted exactly when there is such an entry; 'Its part starts at the offset from the blob's start.'
+  pub exactly : (b name : List ℕ) → (Cpd.number b name ≡ 0) ↔ Sought b name
+  pub part :
+      (b name : List ℕ) (x : Sought b name)
+      → At (offsetAt b (entryAt b (x .i))) (sizeAt b (entryAt b (x .i))) (Cpd.located b name)
   pub same-number : (b name : List ℕ) → Cpd.located b name .code ≡ Cpd.number b name
+  pub not-truncated : (b name : List ℕ) → Cpd.located b name .truncated ≡ false
   -- 'a refused location gives the empty part at the start of the lent blob'
   pub refused : (b name : List ℕ) → (Cpd.number b name ≡ 0 → ⊥) → EmptyAtStart (Cpd.number b name) (Cpd.located b name)
   -- what is located lies in the blob, and is handed back as that part of it
   pub within : (b name : List ℕ) → end (Cpd.located b name) ≤ length b
   pub very-bytes :
       (name : List ℕ) (blob part : RefT (List ℕ)) → PartOf blob (Cpd.place (now blob) name) part
-      → (now part ≡ bytesOf (now blob) (Cpd.located (now blob) name))
-      × (ptr part .0 ≡ ptr blob .0)
-      × (ptr part .1 ≡ Cpd.located (now blob) name .start + ptr blob .1)
+      → VeryBytes blob (Cpd.located (now blob) name) part
+  -- ours, for a list of all entries: how many a directory has, each entry's part, and its twelve name bytes
+  pub count : (b : List ℕ) → (Cpd.entriesOf b .code ≡ 0) ↔ IsDirectory b
+  pub counted : (b : List ℕ) → Cpd.entriesOf b .code ≡ 0 → Cpd.entriesOf b .count ≡ dwordAt b 4
+  pub entry : (b : List ℕ) (i : ℕ) → (Cpd.entryLocated b i .code ≡ 0) ↔ EntryThere b i
+  pub entry-part :
+      (b : List ℕ) (i : ℕ) → EntryThere b i → At (offsetAt b (entryAt b i)) (sizeAt b (entryAt b i)) (Cpd.entryLocated b i)
+  pub entry-not-truncated : (b : List ℕ) (i : ℕ) → Cpd.entryLocated b i .truncated ≡ false
+  pub entry-name :
+      (b : List ℕ) (i : ℕ) → IsDirectory b → i < dwordAt b 4 → Cpd.namePlace b i ≡ span (entryAt b i) (entryAt b i + 12)
+
+-- what lies inside a directory, of every blob
+pub record InsideDirectories : Type 0 where
   -- 'a part inside a directory is judged only after the directory's own numbers, 14 to 21, have passed': until then they are the answer
   pub huc-outside :
       (which : Component) (b : List ℕ) → (Cpd.number b hucName ≡ 0 → ⊥) → EmptyAtStart (Cpd.number b hucName) (hucLocated which b)
@@ -78,12 +116,13 @@ pub record Directories : Type 0 where
       (b : List ℕ) → (Cpd.number b hucName ≡ 0 → ⊥) → (hucReading b .number ≡ Cpd.number b hucName) × (hucReading b .version ≡ [])
   pub huc-inside :
       (b : List ℕ) → Cpd.number b hucName ≡ 0 → HucInside b (bytesOf b (Cpd.located b hucName)) (Cpd.located b hucName .start)
+  pub huc-answer :
+      (which : Component) (b : List ℕ)
+      → (hucAnswer b .code ≡ hucLocated which b .code) × (hucAnswer b .truncated ≡ hucLocated which b .truncated)
   pub huc-within : (which : Component) (b : List ℕ) → end (hucLocated which b) ≤ length b
   pub huc-very-bytes :
       (which : Component) (blob part : RefT (List ℕ)) → PartOf blob (hucPlace which (now blob)) part
-      → (now part ≡ bytesOf (now blob) (hucLocated which (now blob)))
-      × (ptr part .0 ≡ ptr blob .0)
-      × (ptr part .1 ≡ hucLocated which (now blob) .start + ptr blob .1)
+      → VeryBytes blob (hucLocated which (now blob)) part
   pub manifest-outside :
       (b : List ℕ) → (Cpd.number b manifestName ≡ 0 → ⊥)
       → (manifestReading b .number ≡ Cpd.number b manifestName) × (manifestReading b .version ≡ [])

@@ -29,6 +29,16 @@ pub record EmptyAtStart (number : ℕ) (l : Located) : Type 0 where
   pub at-start : l .start ≡ 0
   pub empty : l .len ≡ 0
 
+-- the bytes that are located
+abbrev pub bytesOf : List ℕ → Located → List ℕ
+bytesOf b l = take (l .len) (drop (l .start) b)
+
+-- 'handed back as that part of the lent blob': the located bytes, in the blob's own memory, where they lie
+pub record VeryBytes (blob : RefT (List ℕ)) (l : Located) (part : RefT (List ℕ)) : Type 0 where
+  pub bytes : now part ≡ bytesOf (now blob) l
+  pub block : ptr part .0 ≡ ptr blob .0
+  pub place : ptr part .1 ≡ l .start + ptr blob .1
+
 -- 'Dwords: 1 = h (all that is not uCode), 6 = s (all), 7 = k (RSA), 8 = m (modulus), 9 = e (exponent), 16 = version'; 'Sizes are in dwords.'
 abbrev pub h : List ℕ → ℕ
 h b = Css.headerDword b 1
@@ -48,18 +58,20 @@ e b = Css.headerDword b 9
 abbrev pub version : List ℕ → ℕ
 version b = Css.headerDword b 16
 
--- what any blob has that is accepted
-pub record ImageAccepted (b : List ℕ) : Type 0 where
-  -- 'at least 128 bytes'; 'Over whole numbers h = 32 + k + m + e, k at least 1, s above h'; 'Bytes 128 + 4(s - h) + 4k must be there'
+-- 'at least 128 bytes'; 'Over whole numbers h = 32 + k + m + e, k at least 1, s above h'; 'Bytes 128 + 4(s - h) + 4k must be there'
+pub record IsImage (b : List ℕ) : Type 0 where
   pub has-header : 128 ≤ length b
   pub sum : h b ≡ 32 + k b + m b + e b
   pub has-rsa : 1 ≤ k b
   pub has-ucode : h b < s b
   pub there : 128 + 4 * (s b - h b) + 4 * k b ≤ length b
-  -- 'Order: header, uCode, RSA, modulus, exponent.': uCode lies behind the header, the RSA behind it
+
+-- where the parts of an accepted image lie, and its version
+pub record ImageParts (b : List ℕ) : Type 0 where
+  -- 'Order: header, uCode, RSA, modulus, exponent.': uCode lies past the header, the RSA past it
   pub ucode : At 128 (4 * (s b - h b)) (Css.located Ucode b)
   pub rsa : At (end (Css.located Ucode b)) (4 * k b) (Css.located Rsa b)
-  -- 'Modulus and exponent are shown when the blob has at least 4s bytes': behind the RSA, and the exponent behind the modulus. 'Bytes past 4s belong to no
+  -- 'Modulus and exponent are shown when the blob has at least 4s bytes': past the RSA, and the exponent past the modulus. 'Bytes past 4s belong to no
   -- part.': the last one ends there
   pub modulus : 4 * s b ≤ length b → At (end (Css.located Rsa b)) (4 * m b) (Css.located Modulus b)
   pub exponent : 4 * s b ≤ length b → At (end (Css.located Modulus b)) (4 * e b) (Css.located Exponent b)
@@ -75,22 +87,25 @@ pub record ImageAccepted (b : List ℕ) : Type 0 where
 
 -- of every blob and component
 pub record Images : Type 0 where
-  pub accepted : (b : List ℕ) → Css.number b ≡ 0 → ImageAccepted b
+  -- accepted exactly when it is an image
+  pub exactly : (b : List ℕ) → (Css.number b ≡ 0) ↔ IsImage b
+  pub parts : (b : List ℕ) → Css.number b ≡ 0 → ImageParts b
   -- '.. and says truncated': exactly where it is accepted and short of 4s
   pub truncated :
       (which : Component) (b : List ℕ)
       → (Css.located which b .truncated ≡ true) ↔ ((Css.number b ≡ 0) × (length b < 4 * s b))
   -- one judgement: each component's location, the answer alone and the reading have one number
   pub same-number : (which : Component) (b : List ℕ) → Css.located which b .code ≡ Css.number b
+  pub same-answer :
+      (which : Component) (b : List ℕ)
+      → (Css.answer b .code ≡ Css.located which b .code) × (Css.answer b .truncated ≡ Css.located which b .truncated)
   pub same-reading : (b : List ℕ) → cssReading b .number ≡ Css.number b
-  -- 'a refused location gives the empty part at the start of the lent blob ..., a refused version reading no version'
+  -- 'a refused location gives the empty part at the start of the lent blob ..', 'a refused version reading no version'
   pub refused : (which : Component) (b : List ℕ) → (Css.number b ≡ 0 → ⊥) → EmptyAtStart (Css.number b) (Css.located which b)
   pub no-version : (b : List ℕ) → (Css.number b ≡ 0 → ⊥) → cssReading b .version ≡ []
   -- what is located lies in the blob
   pub within : (which : Component) (b : List ℕ) → end (Css.located which b) ≤ length b
-  -- 'Each component is handed back as that part of the lent blob': what a function hands back by its contract is those bytes, in the blob's own memory
+  -- 'Each component is handed back as that part of the lent blob', by each function whose contract has it
   pub very-bytes :
       (which : Component) (blob part : RefT (List ℕ)) → PartOf blob (Css.place which (now blob)) part
-      → (now part ≡ take (Css.located which (now blob) .len) (drop (Css.located which (now blob) .start) (now blob)))
-      × (ptr part .0 ≡ ptr blob .0)
-      × (ptr part .1 ≡ Css.located which (now blob) .start + ptr blob .1)
+      → VeryBytes blob (Css.located which (now blob)) part

@@ -1,3 +1,4 @@
+pub mod Carried
 pub mod Images
 pub mod Directories
 pub mod Demand2

@@ -1,4 +1,4 @@
--- Laws of `all` and `first`: how a walk goes on and how it ends. Assumes nothing.
+-- Laws of `all` and `firstFrom`: how a walk goes on and how it ends. Assumes nothing.
 use Prim.Native.Nat.{ℕ, zero, suc, _+_, _-_, _≤_, _<_}
 use mathlib.Core.Path.{_≡_, refl, sym, ap, _∙_}
 use mathlib.Core.Bool.{Bool, true, false, not, cond, and-false}
@@ -7,9 +7,9 @@ use mathlib.Core.Logic.{⊎-elim}
 use native.Mathlib.Nat.{eq-or-lt-of-le}
 use native.Mathlib.Omega.{arith}
 use Rattle.firmware.specs.Cpd.{all, firstFrom}
-use Rattle.firmware.proofs.Tests.{both, cases}
-use lib.Dec.{leb}
-use borrow.Author.Tests.{leb-true, leb-false}
+use lib.Dec.{leb, ltb}
+use borrow.Author.Tests.{leb-true, leb-false, ltb-true, ltb-false}
+use Rattle.firmware.proofs.Tests.{both, cases, true-false}
 
 pub all-more : (p : ℕ → Bool) (n : ℕ) → all p n ≡ true → p n ≡ true → all p (n + 1) ≡ true
 unfolding all
@@ -104,3 +104,16 @@ none-met p n =
     (λ t.
     let g : firstFrom p 0 n < n = leb-false n (firstFrom p 0 n) t in
     all-fails (λ j. not (p j)) n (firstFrom p 0 n) g (ap not (first-met p 0 n (omega arith))) ∙ sym t)
+
+-- where one number holds, and none before it, the walk comes to that one
+pub first-at : (p : ℕ → Bool) (n i : ℕ) → i < n → p i ≡ true → ((j : ℕ) → j < i → p j ≡ false) → firstFrom p 0 n ≡ i
+first-at p n i l t before =
+    cases (ltb i (firstFrom p 0 n))
+    (λ u. true-false (sym t ∙ first-unmet p 0 n i (omega arith) (ltb-true i (firstFrom p 0 n) u)))
+    (λ u.
+    let g : firstFrom p 0 n ≤ i = ltb-false i (firstFrom p 0 n) u in
+    cases (ltb (firstFrom p 0 n) i)
+    (λ v.
+    let m : firstFrom p 0 n < i = ltb-true (firstFrom p 0 n) i v in
+    true-false (sym (first-met p 0 n (omega arith)) ∙ before (firstFrom p 0 n) m))
+    (λ v. omega (arith, ltb-false (firstFrom p 0 n) i v)))
