@@ -89,7 +89,7 @@ static uint32_t guc_copy(void)
 }
 // The entry sought is the last of sixteen.
 static uint32_t entry_part(uint32_t code, size_t start, size_t len) { return code | (start ^ 404) | (len ^ 64); }
-static const uint8_t huc_fw[6] = "huc_fw";
+static const uint8_t huc_fw[] = "huc_fw"; // six bytes are the name
 static uint32_t guc_find(void)
 {
     struct guc_part p = guc_cpd_part(directory, sizeof directory, huc_fw, 6);
