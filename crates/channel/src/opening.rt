@@ -4,8 +4,10 @@ ghost use lib.ListN.{length, replicate};
 ghost use Rattle.channel.specs.Opening.{opened, opening, openNumber};
 use crate::receiving::Receiver;
 use crate::sending::Sender;
+use ring::DESCRIPTOR_DWORDS;
 use ring::allowed;
 use ring::need;
+use ring::refusal;
 
 // What opening answers.
 pub struct Opened {
@@ -18,7 +20,11 @@ pub struct Opened {
 pub fn open_number(descriptor: usize, n: usize) -> u32
     ensures { λ r. ⌜ r ≡ openNumber descriptor n ⌝ }
 {
-    need(descriptor == 16, 1, need(allowed(n), 2, 0))
+    need(
+        descriptor == DESCRIPTOR_DWORDS,
+        refusal::BAD_DESCRIPTOR,
+        need(allowed(n), refusal::BAD_BUFFER, 0),
+    )
 }
 
 // Makes the words all zeros.

@@ -12,8 +12,10 @@ use crate::state::fits_idle;
 use crate::state::no_copy;
 use crate::state::publish_number;
 use crate::state::receiving_number;
+use message::MESSAGE_MAX;
 use message::dword_at;
 use ring::need;
+use ring::refusal;
 use runs::past;
 
 // A receiver's state: made for a buffer of n dwords, with its own head. Mid-call it has a copy of the dwords that it has moved out of the buffer, of a
@@ -23,7 +25,7 @@ pub struct Receiver {
     pub own: usize,
     pub len: usize,
     pub moved: usize,
-    pub copy: [u32; 256],
+    pub copy: [u32; MESSAGE_MAX],
 }
 
 // What a receive's look and copy answer.
@@ -116,7 +118,11 @@ impl Receiver {
     {
         let n = buf.len();
         let moved = self.moved;
-        let code = self.go_on_number(desc.len(), n, need(moved < self.len, 12, 0));
+        let code = self.go_on_number(
+            desc.len(),
+            n,
+            need(moved < self.len, refusal::OUT_OF_TURN, 0),
+        );
         if code != 0 {
             return Stepped {
                 code: code,
@@ -141,7 +147,7 @@ impl Receiver {
         let header = copy[0];
         let second = copy[1];
         let code = publish_number(self.counts(), header, second, out.len(), desc.len(), n);
-        if (code != 0) & (code != 13) {
+        if (code != 0) & (code != refusal::MALFORMED) {
             return Received {
                 code: code,
                 len: 0,
@@ -149,11 +155,11 @@ impl Receiver {
             };
         }
         let len = self.len;
-        if code == 13 {
+        if code == refusal::MALFORMED {
             let head = past(self.own, len, n);
             ring::publish_head(desc, head as u32);
             return Received {
-                code: 13,
+                code: refusal::MALFORMED,
                 len: 0,
                 next: Receiver::idle_at(self.n, head),
             };
@@ -179,7 +185,7 @@ impl Receiver {
         ensures { λ r. ⌜ received r (now (desc .exit)) (now (buf .entry)) (now (out .exit)) ≡ Receive.whole (ofReceiver self) (now (out .entry)) (now (desc .entry)) (now (buf .entry)) ⌝ }
     {
         let end = ring::whole_receive(self.is_idle(buf.len()), self.own, desc, buf, out);
-        if (end.code != 0) & (end.code != 13) {
+        if (end.code != 0) & (end.code != refusal::MALFORMED) {
             return Received {
                 code: end.code,
                 len: end.len,

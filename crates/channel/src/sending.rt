@@ -12,6 +12,7 @@ use crate::state::Counts;
 use crate::state::fits_idle;
 use crate::state::no_copy;
 use crate::state::sending_number;
+use message::MESSAGE_MAX;
 use message::dword_at;
 use runs::past;
 
@@ -22,7 +23,7 @@ pub struct Sender {
     pub own: usize,
     pub len: usize,
     pub moved: usize,
-    pub copy: [u32; 256],
+    pub copy: [u32; MESSAGE_MAX],
 }
 
 // What a step of a send, or a whole send, answers: document 01's number and the next state.
@@ -32,7 +33,7 @@ pub struct Sent {
 }
 
 // A copy of a message that is looked at, with zeros in its other places.
-fn message_copy(header: u32, word: u32, rest: &[u32]) -> [u32; 256]
+fn message_copy(header: u32, word: u32, rest: &[u32]) -> [u32; MESSAGE_MAX]
     ensures { λ r. ⌜ r ≡ laid (header ∷ word ∷ now (rest .entry)) zeros ⌝ }
 {
     let mut copy = no_copy();

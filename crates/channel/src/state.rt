@@ -5,8 +5,10 @@ ghost use mathlib.Core.List.{[], _∷_};
 ghost use Rattle.channel.specs.State.{counted, zeros, allZero, idle, activeSend, activeReceive};
 ghost use Rattle.ring.specs.Numbers.{need, firstNeeds};
 ghost use Rattle.channel.specs.Receive.{publishNumberOf};
+use message::MESSAGE_MAX;
 use ring::first_needs;
 use ring::need;
+use ring::refusal;
 
 // The numbers of a state, beside its copy.
 pub struct Counts {
@@ -30,10 +32,10 @@ fn all_zero(s: &[u32]) -> bool
 }
 
 // A copy of all zeros, which an idle state has.
-pub(crate) fn no_copy() -> [u32; 256]
+pub(crate) fn no_copy() -> [u32; MESSAGE_MAX]
     ensures { λ r. ⌜ r ≡ zeros ⌝ }
 {
-    [0; 256]
+    [0; MESSAGE_MAX]
 }
 
 // Whether a state is idle and fits a buffer of n dwords.
@@ -50,7 +52,7 @@ fn fits_sending(n: usize, s: Counts, header: u32, word: u32) -> bool
     (s.n == n)
         & (s.own < n)
         & (2 <= s.len)
-        & (s.len <= 256)
+        & (s.len <= MESSAGE_MAX)
         & (s.moved <= s.len)
         & (s.len == message::total_length(header))
         & message::well_formed(header, word)
@@ -63,7 +65,7 @@ fn fits_receiving(n: usize, s: Counts, header: u32) -> bool
     (s.n == n)
         & (s.own < n)
         & (1 <= s.len)
-        & (s.len <= 256)
+        & (s.len <= MESSAGE_MAX)
         & (1 <= s.moved)
         & (s.moved <= s.len)
         & (s.len == message::total_length(header))
@@ -84,7 +86,7 @@ pub fn sending_number(
         descriptor,
         n,
         fits_sending(n, s, header, word),
-        need(test, 12, 0),
+        need(test, refusal::OUT_OF_TURN, 0),
     )
 }
 
@@ -107,6 +109,16 @@ pub fn publish_number(
     ensures { λ r. ⌜ r ≡ publishNumberOf (counted s (header ∷ second ∷ [])) output descriptor n ⌝ }
 {
     let formed = message::well_formed(header, second);
-    let rest = need(s.len <= s.moved, 12, need(formed, 13, 0));
-    receiving_number(s, header, descriptor, n, need(256 <= output, 5, rest))
+    let rest = need(
+        s.len <= s.moved,
+        refusal::OUT_OF_TURN,
+        need(formed, refusal::MALFORMED, 0),
+    );
+    receiving_number(
+        s,
+        header,
+        descriptor,
+        n,
+        need(MESSAGE_MAX <= output, refusal::SHORT_OUTPUT, rest),
+    )
 }

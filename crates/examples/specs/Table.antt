@@ -1,5 +1,5 @@
 -- The worked examples of document 01, 'Both sides of each line': one table, and the statement that the definitions give each of its rows.
--- Every line marked P is here, each row under the paper's words. A comment that starts with 'Ours' marks rows that the paper does not have.
+-- Every line marked P is here, each row under the paper's words. A comment that starts with `Ours` marks rows that the paper does not have.
 use Prim.Native.Nat.{ℕ}
 use mathlib.Core.Bool.{Bool, true, false}
 use mathlib.Core.List.{List, [], _∷_, _++_, map}

@@ -25,7 +25,7 @@ pub no-header : (b : List ℕ) (which : Component) → length b < 128 → Css.lo
 unfolding Css.number
 no-header b which l = refused b which 14 (simp (lt-ltb (length b) 128 l))
 
--- 'fewer than' and 'not at least' are one test
+-- that there are fewer, and that there are not at least so many, are one test
 fewer : (n m : ℕ) (t : Bool) → leb m n ≡ t → not t ≡ ltb n m
 fewer n m true e = sym (le-ltb n m (leb-true m n e))
 fewer n m false e = sym (lt-ltb n m (leb-false m n e))

@@ -10,9 +10,28 @@ use crate::bytes::dword_at;
 use crate::bytes::part;
 use crate::bytes::refused;
 use crate::bytes::wide;
+use crate::name::NAME_BYTES;
 use crate::name::front;
 use crate::name::is_name;
 use crate::name::key_of;
+use crate::refusal;
+
+// 'CPD: at least 20 bytes'; nor may the header length be 'below 20'.
+const HEADER_MIN: usize = 20;
+
+// 'entry count n is the dword at 4; header length H is the byte at 10'
+const COUNT_AT: usize = 4;
+
+const HEADER_LENGTH_AT: usize = 10;
+
+// 'An entry: name 12 bytes (zero padded), offset dword (bits 24:0 count), length dword, 4 reserved bytes.'
+const ENTRY_BYTES: usize = 24;
+
+const OFFSET_AT: usize = 12;
+
+const OFFSET_LIMIT: usize = 0x200_0000;
+
+const LENGTH_AT: usize = 16;
 
 // What a directory is answered: 0 or the number that refuses it, and how many entries it has.
 pub struct Directory {
@@ -49,16 +68,16 @@ fn no_table(code: u32) -> Table
 fn read_table(blob: &[u8]) -> Table
     ensures { λ r. ⌜ r ≡ tableOf (now (blob .entry)) ⌝ }
 {
-    if blob.len() < 20 {
-        return no_table(15);
+    if blob.len() < HEADER_MIN {
+        return no_table(refusal::SHORT_BLOB);
     }
-    let start = wide(blob[10]);
-    if !(has_marker(blob) & (20 <= start)) {
-        return no_table(18);
+    let start = wide(blob[HEADER_LENGTH_AT]);
+    if !(has_marker(blob) & (HEADER_MIN <= start)) {
+        return no_table(refusal::CPD_HEADER);
     }
-    let count = dword_at(blob, 4);
-    if blob.len() < start + 24 * count {
-        return no_table(19);
+    let count = dword_at(blob, COUNT_AT);
+    if blob.len() < start + ENTRY_BYTES * count {
+        return no_table(refusal::CPD_ENTRIES);
     }
     Table {
         code: 0,
@@ -69,7 +88,7 @@ fn read_table(blob: &[u8]) -> Table
 
 // The index of the first of `count` entries from byte `start` whose twelve bytes are the key's, or `count`. Each byte of a name is read
 // once: the first four as a dword, which most entries fail, then one after another.
-fn walk(blob: &[u8], start: usize, count: usize, key: [u8; 12]) -> usize
+fn walk(blob: &[u8], start: usize, count: usize, key: [u8; NAME_BYTES]) -> usize
     requires { ⌜ start + 24 * count ≤ length (now blob) ⌝ }
     ensures { λ r. ⌜ r ≡ walked (now (blob .entry)) key start count ⌝ }
 {
@@ -79,12 +98,12 @@ fn walk(blob: &[u8], start: usize, count: usize, key: [u8; 12]) -> usize
         if count <= i {
             break 'entries count;
         }
-        let at = start + 24 * i;
+        let at = start + ENTRY_BYTES * i;
         if dword_at(blob, at) != first {
             i += 1;
             continue 'entries;
         }
-        for j in 4..12 {
+        for j in 4..NAME_BYTES {
             if blob[at + j] != key[j] {
                 i += 1;
                 continue 'entries;
@@ -104,13 +123,13 @@ fn entry_located(blob: &[u8], t: Table, i: usize) -> Located
         return refused(code);
     }
     if t.count <= i {
-        return refused(20);
+        return refused(refusal::NO_ENTRY);
     }
-    let at = t.start + 24 * i;
-    let start = dword_at(blob, at + 12) % 0x200_0000;
-    let len = dword_at(blob, at + 16);
+    let at = t.start + ENTRY_BYTES * i;
+    let start = dword_at(blob, at + OFFSET_AT) % OFFSET_LIMIT;
+    let len = dword_at(blob, at + LENGTH_AT);
     if blob.len() < start + len {
-        return refused(21);
+        return refused(refusal::CPD_BEYOND);
     }
     Located {
         code: 0,
@@ -126,7 +145,7 @@ pub fn cpd_located(blob: &[u8], name: &[u8]) -> Located
 {
     let key = key_of(name);
     if !is_name(key, name.len()) {
-        return refused(14);
+        return refused(refusal::BAD_FIELD);
     }
     let t = read_table(blob);
     let i = walk(blob, t.start, t.count, key);
@@ -176,7 +195,7 @@ pub fn cpd_name(blob: &[u8], i: usize) -> &[u8]
     if t.count <= i {
         return &blob[0..0];
     }
-    let from = t.start + 24 * i;
-    let to = from + 12;
+    let from = t.start + ENTRY_BYTES * i;
+    let to = from + NAME_BYTES;
     &blob[from..to]
 }

@@ -12,6 +12,24 @@ use crate::bytes::Located;
 use crate::bytes::dword_at;
 use crate::bytes::part;
 use crate::bytes::refused;
+use crate::refusal;
+
+// 'CSS: at least 128 bytes': what the header has.
+const HEADER_BYTES: usize = 128;
+
+// Where the dwords of the header that are read start: '1 = h (all that is not uCode), 6 = s (all), 7 = k (RSA), 8 = m (modulus), 9 = e (exponent),
+// 16 = version'.
+const H_AT: usize = 4 * 1;
+
+const S_AT: usize = 4 * 6;
+
+const K_AT: usize = 4 * 7;
+
+const M_AT: usize = 4 * 8;
+
+const E_AT: usize = 4 * 9;
+
+pub(crate) const VERSION_AT: usize = 4 * 16;
 
 // The parts of an image beside its header, in their order.
 pub enum Component {
@@ -39,16 +57,19 @@ pub(crate) struct Sizes {
 // What sizes are summed in. They are dwords, so a sum of four may wrap in 32 bits, and does not in 64.
 type Sum = u64;
 
+// 'h = 32 + k + m + e': the header's own dwords.
+const HEADER_DWORDS: Sum = 32;
+
 // The sizes that a header says, each read once: what is judged and what is handed out are these numbers.
 fn read_sizes(blob: &[u8]) -> Sizes
     requires { ⌜ 128 ≤ length (now blob) ⌝ }
     ensures { λ r. ⌜ (r ≡ Css.sizes (now (blob .entry))) × Small r ⌝ }
 {
-    let h = dword_at(blob, 4);
-    let s = dword_at(blob, 24);
-    let k = dword_at(blob, 28);
-    let m = dword_at(blob, 32);
-    let e = dword_at(blob, 36);
+    let h = dword_at(blob, H_AT);
+    let s = dword_at(blob, S_AT);
+    let k = dword_at(blob, K_AT);
+    let m = dword_at(blob, M_AT);
+    let e = dword_at(blob, E_AT);
     Sizes { h, s, k, m, e }
 }
 
@@ -64,7 +85,7 @@ fn agree(z: Sizes) -> bool
     requires { ⌜ Small z ⌝ }
     ensures { λ r. ⌜ r ≡ Css.agree z ⌝ }
 {
-    let sum = 32 + summand(z.k) + summand(z.m) + summand(z.e);
+    let sum = HEADER_DWORDS + summand(z.k) + summand(z.m) + summand(z.e);
     (summand(z.h) == sum) & (1 <= z.k) & (z.h < z.s)
 }
 
@@ -107,12 +128,12 @@ fn judge(n: usize, z: Sizes, which: Component) -> Located
     ensures { λ r. ⌜ LocatedBy n z which r ⌝ }
 {
     if !agree(z) {
-        return refused(16);
+        return refused(refusal::CSS_SIZES);
     }
-    let rsa = 128 + 4 * (z.s - z.h);
+    let rsa = HEADER_BYTES + 4 * (z.s - z.h);
     let modulus = rsa + 4 * z.k;
     if n < modulus {
-        return refused(17);
+        return refused(refusal::CSS_BEYOND);
     }
     let exponent = modulus + 4 * z.m;
     let end = 4 * z.s;
@@ -120,7 +141,7 @@ fn judge(n: usize, z: Sizes, which: Component) -> Located
     let rank = rank(which);
     if rank < 2 {
         if rank < 1 {
-            return component_located(n, modulus, truncated, 128, rsa);
+            return component_located(n, modulus, truncated, HEADER_BYTES, rsa);
         }
         return component_located(n, modulus, truncated, rsa, modulus);
     }
@@ -134,8 +155,8 @@ fn judge(n: usize, z: Sizes, which: Component) -> Located
 pub fn css_located(blob: &[u8], which: Component) -> Located
     ensures { λ r. ⌜ r ≡ Css.located which (now (blob .entry)) ⌝ }
 {
-    if blob.len() < 128 {
-        return refused(15);
+    if blob.len() < HEADER_BYTES {
+        return refused(refusal::SHORT_BLOB);
     }
     let z = read_sizes(blob);
     judge(blob.len(), z, which)

@@ -6,6 +6,7 @@ mod cpd;
 mod css;
 mod huc;
 mod name;
+pub mod refusal;
 mod version;
 
 pub use bytes::Located;

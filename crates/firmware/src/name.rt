@@ -5,6 +5,9 @@ ghost use Rattle.firmware.specs.Bytes.{dwordAt};
 ghost use Rattle.firmware.specs.Private.{Keyed, NameBy};
 use crate::bytes::wide;
 
+// 'name 12 bytes (zero padded)'
+pub(crate) const NAME_BYTES: usize = 12;
+
 // Byte j of a name, zero padded.
 fn padded(name: &[u8], j: usize) -> u8
     ensures { λ r. ⌜ r ≡ getD (now (name .entry)) j 0 ⌝ }
@@ -13,24 +16,24 @@ fn padded(name: &[u8], j: usize) -> u8
 }
 
 // The first twelve bytes of a name, zero padded.
-pub(crate) fn key_of(name: &[u8]) -> [u8; 12]
+pub(crate) fn key_of(name: &[u8]) -> [u8; NAME_BYTES]
     ensures { λ r. ⌜ Keyed (now (name .entry)) r ⌝ }
 {
-    let mut key = [0u8; 12];
-    for j in 0..12 {
+    let mut key = [0u8; NAME_BYTES];
+    for j in 0..NAME_BYTES {
         key[j] = padded(name, j);
     }
     key
 }
 
 // Whether a name of so many bytes, copied to the key, is 1 to 12 bytes without a zero.
-pub(crate) fn is_name(key: [u8; 12], len: usize) -> bool
+pub(crate) fn is_name(key: [u8; NAME_BYTES], len: usize) -> bool
     ensures { λ r. ⌜ NameBy key len r ⌝ }
 {
     if len < 1 {
         return false;
     }
-    if 12 < len {
+    if NAME_BYTES < len {
         return false;
     }
     for j in 0..len {
@@ -42,7 +45,7 @@ pub(crate) fn is_name(key: [u8; 12], len: usize) -> bool
 }
 
 // The key's first dword.
-pub(crate) fn front(key: [u8; 12]) -> usize
+pub(crate) fn front(key: [u8; NAME_BYTES]) -> usize
     ensures { λ r. ⌜ r ≡ dwordAt key 0 ⌝ }
 {
     wide(key[0]) + 0x100 * wide(key[1]) + 0x1_0000 * wide(key[2]) + 0x100_0000 * wide(key[3])

@@ -6,7 +6,20 @@ use crate::bytes::dword_at;
 use crate::bytes::word_at;
 use crate::cpd::cpd_located;
 use crate::css::Component;
+use crate::css::VERSION_AT;
 use crate::css::css_located;
+use crate::refusal;
+
+// 'four 16-bit numbers (major, minor, hotfix, build) at byte 36, so 44 bytes are needed'
+const MAJOR_AT: usize = 36;
+
+const MINOR_AT: usize = 38;
+
+const HOTFIX_AT: usize = 40;
+
+const BUILD_AT: usize = 42;
+
+const MANIFEST_MIN: usize = 44;
 
 // The version of a CSS image, or the number that refuses it.
 pub enum Version {
@@ -34,7 +47,7 @@ pub fn css_version(blob: &[u8]) -> Version
     if code != 0 {
         return Version::Refused(code);
     }
-    let v = dword_at(blob, 64);
+    let v = dword_at(blob, VERSION_AT);
     Version::Known {
         major: (v / 0x1_0000 % 0x100) as u8,
         minor: (v / 0x100 % 0x100) as u8,
@@ -46,13 +59,13 @@ pub fn css_version(blob: &[u8]) -> Version
 fn version_in(m: &[u8]) -> ManifestVersion
     ensures { λ r. ⌜ ofManifest r ≡ manifestIn (now (m .entry)) ⌝ }
 {
-    if m.len() < 44 {
-        return ManifestVersion::Refused(15);
+    if m.len() < MANIFEST_MIN {
+        return ManifestVersion::Refused(refusal::SHORT_BLOB);
     }
-    let major = word_at(m, 36);
-    let minor = word_at(m, 38);
-    let hotfix = word_at(m, 40);
-    let build = word_at(m, 42);
+    let major = word_at(m, MAJOR_AT);
+    let minor = word_at(m, MINOR_AT);
+    let hotfix = word_at(m, HOTFIX_AT);
+    let build = word_at(m, BUILD_AT);
     ManifestVersion::Known {
         major,
         minor,

@@ -5,6 +5,7 @@ ghost use Rattle.channel.specs.Opening.{opening};
 ghost use Rattle.channel.specs.Send;
 ghost use Rattle.channel.specs.Receive;
 ghost use Rattle.side.specs.Words.{stateOf, inWords, openedWords};
+use side::STATE_WORDS;
 
 // What a receive answers: the number, and the length L of the message laid.
 #[repr(C)]
@@ -15,8 +16,8 @@ pub struct Received {
 
 #[no_mangle]
 pub extern "C" fn guc_open(
-    sender: &mut [u32; 260],
-    receiver: &mut [u32; 260],
+    sender: &mut [u32; STATE_WORDS],
+    receiver: &mut [u32; STATE_WORDS],
     desc: &mut [u32],
     buf: &[u32],
 ) -> u32
@@ -27,7 +28,7 @@ pub extern "C" fn guc_open(
 
 #[no_mangle]
 pub extern "C" fn guc_send_look(
-    w: &mut [u32; 260],
+    w: &mut [u32; STATE_WORDS],
     desc: &mut [u32],
     buf: &[u32],
     msg: &[u32],
@@ -38,14 +39,14 @@ pub extern "C" fn guc_send_look(
 }
 
 #[no_mangle]
-pub extern "C" fn guc_send_store(w: &mut [u32; 260], desc: &[u32], buf: &mut [u32]) -> u32
+pub extern "C" fn guc_send_store(w: &mut [u32; STATE_WORDS], desc: &[u32], buf: &mut [u32]) -> u32
     ensures { λ r. ⌜ inWords r 0 (now (w .exit)) (now (desc .entry)) (now (buf .exit)) [] ≡ Send.move (stateOf (now (w .entry))) (now (desc .entry)) (now (buf .entry)) ⌝ }
 {
     side::send_store(w, desc, buf)
 }
 
 #[no_mangle]
-pub extern "C" fn guc_send_publish(w: &mut [u32; 260], desc: &mut [u32], buf: &[u32]) -> u32
+pub extern "C" fn guc_send_publish(w: &mut [u32; STATE_WORDS], desc: &mut [u32], buf: &[u32]) -> u32
     ensures { λ r. ⌜ inWords r 0 (now (w .exit)) (now (desc .exit)) (now (buf .entry)) [] ≡ Send.publish (stateOf (now (w .entry))) (now (desc .entry)) (now (buf .entry)) ⌝ }
 {
     side::send_publish(w, desc, buf)
@@ -53,7 +54,7 @@ pub extern "C" fn guc_send_publish(w: &mut [u32; 260], desc: &mut [u32], buf: &[
 
 #[no_mangle]
 pub extern "C" fn guc_send(
-    w: &mut [u32; 260],
+    w: &mut [u32; STATE_WORDS],
     desc: &mut [u32],
     buf: &mut [u32],
     msg: &[u32],
@@ -64,14 +65,14 @@ pub extern "C" fn guc_send(
 }
 
 #[no_mangle]
-pub extern "C" fn guc_receive_look(w: &mut [u32; 260], desc: &mut [u32], buf: &[u32]) -> u32
+pub extern "C" fn guc_receive_look(w: &mut [u32; STATE_WORDS], desc: &mut [u32], buf: &[u32]) -> u32
     ensures { λ r. ⌜ inWords r 0 (now (w .exit)) (now (desc .exit)) (now (buf .entry)) [] ≡ Receive.look (stateOf (now (w .entry))) (now (desc .entry)) (now (buf .entry)) ⌝ }
 {
     side::receive_look(w, desc, buf)
 }
 
 #[no_mangle]
-pub extern "C" fn guc_receive_copy(w: &mut [u32; 260], desc: &[u32], buf: &[u32]) -> u32
+pub extern "C" fn guc_receive_copy(w: &mut [u32; STATE_WORDS], desc: &[u32], buf: &[u32]) -> u32
     ensures { λ r. ⌜ inWords r 0 (now (w .exit)) (now (desc .entry)) (now (buf .entry)) [] ≡ Receive.move (stateOf (now (w .entry))) (now (desc .entry)) (now (buf .entry)) ⌝ }
 {
     side::receive_copy(w, desc, buf)
@@ -79,7 +80,7 @@ pub extern "C" fn guc_receive_copy(w: &mut [u32; 260], desc: &[u32], buf: &[u32]
 
 #[no_mangle]
 pub extern "C" fn guc_receive_publish(
-    w: &mut [u32; 260],
+    w: &mut [u32; STATE_WORDS],
     desc: &mut [u32],
     buf: &[u32],
     out: &mut [u32],
@@ -95,7 +96,7 @@ pub extern "C" fn guc_receive_publish(
 
 #[no_mangle]
 pub extern "C" fn guc_receive(
-    w: &mut [u32; 260],
+    w: &mut [u32; STATE_WORDS],
     desc: &mut [u32],
     buf: &[u32],
     out: &mut [u32],

@@ -2,4 +2,5 @@
 mod calls;
 mod messages;
 mod parts;
+mod refusal;
 mod versions;

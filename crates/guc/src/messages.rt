@@ -3,9 +3,18 @@ ghost use mathlib.Core.Path.{_≡_};
 ghost use mathlib.Core.Option.{some};
 ghost use Rattle.message.specs.Packing.{unpackAnswer, originOf, originNumber, packAnswer};
 ghost use Rattle.guc.specs.Messages.{bodyFor, ofTyped, spare, notPacked, packing, packedBy, saidBy, unpackedBy};
+use crate::refusal::NO_SUCH;
+use firmware::refusal::BAD_FIELD;
 use message::Body;
 use message::Message;
 use message::Origin;
+use message::TYPE_BUSY;
+use message::TYPE_EVENT;
+use message::TYPE_FAILURE;
+use message::TYPE_REQUEST;
+use message::TYPE_RETRY;
+use message::TYPE_SUCCESS;
+use ring::refusal::BAD_MESSAGE;
 
 // 0 and the two dwords, or the number that refuses it.
 #[repr(C)]
@@ -37,21 +46,21 @@ fn of_type(t: u32, first: u32, second: u32) -> Typed
     ensures { λ r. ⌜ ofTyped r ≡ bodyFor t first second ⌝ }
 {
     match t {
-        0 => Typed::Known(Body::Request {
+        TYPE_REQUEST => Typed::Known(Body::Request {
             data: first,
             action: second,
         }),
-        1 => Typed::Known(Body::Event {
+        TYPE_EVENT => Typed::Known(Body::Event {
             data: first,
             action: second,
         }),
-        3 => Typed::Known(Body::Busy { counter: first }),
-        5 => Typed::Known(Body::Retry { reason: first }),
-        6 => Typed::Known(Body::Failure {
+        TYPE_BUSY => Typed::Known(Body::Busy { counter: first }),
+        TYPE_RETRY => Typed::Known(Body::Retry { reason: first }),
+        TYPE_FAILURE => Typed::Known(Body::Failure {
             hint: first,
             error: second,
         }),
-        7 => Typed::Known(Body::Success { data: first }),
+        TYPE_SUCCESS => Typed::Known(Body::Success { data: first }),
         _ => Typed::Unknown,
     }
 }
@@ -100,7 +109,7 @@ fn pack_message(m: Message) -> Packed
 {
     match message::pack(m) {
         message::Packed::Unfit => Packed {
-            code: 14,
+            code: BAD_FIELD,
             header: 0,
             word: 0,
         },
@@ -136,12 +145,12 @@ pub extern "C" fn guc_pack(
     ensures { λ r. ⌜ r ≡ packing origin fence «num_dwords» «hxg_type» first second ⌝ }
 {
     match of_type(hxg_type, first, second) {
-        Typed::Unknown => not_packed(101),
+        Typed::Unknown => not_packed(NO_SUCH),
         Typed::Known(body) => {
             if (origin <= 1) & spare(body, second) {
                 packed_as(origin, fence, num_dwords, body)
             } else {
-                not_packed(14)
+                not_packed(BAD_FIELD)
             }
         }
     }
@@ -178,12 +187,12 @@ fn decoded(m: Message) -> Unpacked
     let n = m.num_dwords;
     let body = m.body;
     match body {
-        Body::Request { data, action } => said(origin, fence, n, 0, data, action),
-        Body::Event { data, action } => said(origin, fence, n, 1, data, action),
-        Body::Busy { counter } => said(origin, fence, n, 3, counter, 0),
-        Body::Retry { reason } => said(origin, fence, n, 5, reason, 0),
-        Body::Failure { hint, error } => said(origin, fence, n, 6, hint, error),
-        Body::Success { data } => said(origin, fence, n, 7, data, 0),
+        Body::Request { data, action } => said(origin, fence, n, TYPE_REQUEST, data, action),
+        Body::Event { data, action } => said(origin, fence, n, TYPE_EVENT, data, action),
+        Body::Busy { counter } => said(origin, fence, n, TYPE_BUSY, counter, 0),
+        Body::Retry { reason } => said(origin, fence, n, TYPE_RETRY, reason, 0),
+        Body::Failure { hint, error } => said(origin, fence, n, TYPE_FAILURE, hint, error),
+        Body::Success { data } => said(origin, fence, n, TYPE_SUCCESS, data, 0),
     }
 }
 
@@ -193,7 +202,7 @@ pub extern "C" fn guc_unpack(msg: &[u32]) -> Unpacked
 {
     match message::unpack(msg) {
         message::Unpacked::Malformed => Unpacked {
-            code: 4,
+            code: BAD_MESSAGE,
             origin: 0,
             fence: 0,
             num_dwords: 0,

@@ -7,9 +7,20 @@ ghost use Rattle.firmware.specs.Bytes.{bytes, span};
 ghost use Rattle.firmware.specs.Css;
 ghost use Rattle.firmware.specs.Inside.{hucNumber, hucTruncated};
 ghost use Rattle.guc.specs.Parts.{imageBy, componentOf, ofWhich, cssPart, hucPart, cpdPart, copied, copiedBy, cssCopy, hucCopy, cpdCopy, flag, partBy};
+use crate::refusal::NO_ROOM;
+use crate::refusal::NO_SUCH;
 use firmware::Component;
 use firmware::ImageAnswer;
 use firmware::Located;
+
+// The components' numbers for C, in their order.
+const PART_UCODE: u32 = 0;
+
+const PART_RSA: u32 = 1;
+
+const PART_MODULUS: u32 = 2;
+
+const PART_EXPONENT: u32 = 3;
 
 // 0 or the number that refuses an image, and whether it is truncated, 0 or 1.
 #[repr(C)]
@@ -45,10 +56,10 @@ fn component(which: u32) -> Which
     ensures { λ r. ⌜ ofWhich r ≡ componentOf which ⌝ }
 {
     match which {
-        0 => Which::One(Component::Ucode),
-        1 => Which::One(Component::Rsa),
-        2 => Which::One(Component::Modulus),
-        3 => Which::One(Component::Exponent),
+        PART_UCODE => Which::One(Component::Ucode),
+        PART_RSA => Which::One(Component::Rsa),
+        PART_MODULUS => Which::One(Component::Modulus),
+        PART_EXPONENT => Which::One(Component::Exponent),
         _ => Which::None,
     }
 }
@@ -102,7 +113,7 @@ pub extern "C" fn guc_css_part(blob: &[u8], which: u32) -> Part
 {
     match component(which) {
         Which::None => Part {
-            code: 101,
+            code: NO_SUCH,
             truncated: 0,
             start: 0,
             len: 0,
@@ -120,7 +131,7 @@ pub extern "C" fn guc_huc_part(blob: &[u8], which: u32) -> Part
 {
     match component(which) {
         Which::None => Part {
-            code: 101,
+            code: NO_SUCH,
             truncated: 0,
             start: 0,
             len: 0,
@@ -166,7 +177,7 @@ fn copy_out(code: u32, truncated: u32, part: &[u8], dst: &mut [u8]) -> Copied
     }
     if dst.len() < len {
         return Copied {
-            code: 100,
+            code: NO_ROOM,
             truncated,
             len,
         };
@@ -195,7 +206,7 @@ pub extern "C" fn guc_css_copy(blob: &[u8], which: u32, dst: &mut [u8]) -> Copie
 {
     match component(which) {
         Which::None => Copied {
-            code: 101,
+            code: NO_SUCH,
             truncated: 0,
             len: 0,
         },
@@ -212,7 +223,7 @@ pub extern "C" fn guc_huc_copy(blob: &[u8], which: u32, dst: &mut [u8]) -> Copie
 {
     match component(which) {
         Which::None => Copied {
-            code: 101,
+            code: NO_SUCH,
             truncated: 0,
             len: 0,
         },

@@ -1,4 +1,4 @@
--- Messages agree with the tables, 'packing and unpacking both': what the customer's second demand asks of messages, for every type at once.
+-- Messages agree with the tables, packing and unpacking alike: what the customer's second demand asks of messages, for every type at once.
 use Prim.Native.Nat.{ℕ, _+_, _≤_, _<_, _^_}
 use mathlib.Core.Path.{_≡_}
 use mathlib.Core.Logic.{_↔_}

@@ -5,6 +5,12 @@ ghost use Rattle.message.specs.Fields.{fieldOf, numDwords, type};
 ghost use Rattle.message.specs.Types.{known};
 ghost use Rattle.message.specs.Header.{totalLength, wellFormed, startsMessage};
 
+// 'NUM_DWORDS 1 to 255'
+const NUM_DWORDS_MAX: u32 = 255;
+
+// L of the longest message, 'up to 256 dwords'; an output has room for one.
+pub const MESSAGE_MAX: usize = 256;
+
 // The dword at i, or 0 where there is none.
 pub fn dword_at(s: &[u32], i: usize) -> u32
     ensures { λ r. ⌜ r ≡ getD (now (s .entry)) i 0 ⌝ }
@@ -26,6 +32,19 @@ pub fn total_length(header: u32) -> usize
     1 + num_dwords(header) as usize
 }
 
+// The columns 'Type' and 'Meaning' of document 01's table of HXG types. 'Types 2 and 4 are unknown.'
+pub const TYPE_REQUEST: u32 = 0;
+
+pub const TYPE_EVENT: u32 = 1;
+
+pub const TYPE_BUSY: u32 = 3;
+
+pub const TYPE_RETRY: u32 = 5;
+
+pub const TYPE_FAILURE: u32 = 6;
+
+pub const TYPE_SUCCESS: u32 = 7;
+
 // The type in an HXG dword 0.
 pub fn hxg_type(word: u32) -> u32
     ensures { λ r. ⌜ r ≡ fieldOf type word ⌝ }
@@ -38,7 +57,12 @@ fn known_type(word: u32) -> bool
     ensures { λ r. ⌜ r ≡ known word ⌝ }
 {
     let t = hxg_type(word);
-    (t == 0) | (t == 1) | (t == 3) | (t == 5) | (t == 6) | (t == 7)
+    (t == TYPE_REQUEST)
+        | (t == TYPE_EVENT)
+        | (t == TYPE_BUSY)
+        | (t == TYPE_RETRY)
+        | (t == TYPE_FAILURE)
+        | (t == TYPE_SUCCESS)
 }
 
 // Whether a header and an HXG dword 0 start a well-formed message.
@@ -48,7 +72,7 @@ pub fn well_formed(header: u32, word: u32) -> bool
     let format = header / 0x1000 % 0x10;
     let reserved = header / 0x100 % 0x10;
     let n = num_dwords(header);
-    (format == 0) & (reserved == 0) & (1 <= n) & (n <= 255) & known_type(word)
+    (format == 0) & (reserved == 0) & (1 <= n) & (n <= NUM_DWORDS_MAX) & known_type(word)
 }
 
 // Whether that many dwords, of which these are the first two, are one well-formed message, exactly L of them. It is lent no message: who asks has read the two

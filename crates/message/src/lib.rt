@@ -3,6 +3,13 @@ mod header;
 mod packing;
 mod unpacking;
 
+pub use header::MESSAGE_MAX;
+pub use header::TYPE_BUSY;
+pub use header::TYPE_EVENT;
+pub use header::TYPE_FAILURE;
+pub use header::TYPE_REQUEST;
+pub use header::TYPE_RETRY;
+pub use header::TYPE_SUCCESS;
 pub use header::dword_at;
 pub use header::starts_message;
 pub use header::total_length;

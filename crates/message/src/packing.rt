@@ -10,6 +10,12 @@ use crate::Body;
 use crate::Message;
 use crate::Origin;
 use crate::Packed;
+use crate::header::TYPE_BUSY;
+use crate::header::TYPE_EVENT;
+use crate::header::TYPE_FAILURE;
+use crate::header::TYPE_REQUEST;
+use crate::header::TYPE_RETRY;
+use crate::header::TYPE_SUCCESS;
 
 // The fields of a body at their places, or that one is too wide.
 enum Placed {
@@ -50,12 +56,12 @@ fn body_bits(b: Body) -> Placed
     ensures { λ r. ⌜ r ≡ cond (fit (bodyFields b)) (Placed.Bits (dword (bodyFields b))) Placed.TooWide ⌝ }
 {
     match b {
-        Body::Request { data, action } => two_fields(0, data, action),
-        Body::Event { data, action } => two_fields(1, data, action),
-        Body::Busy { counter } => one_field(3, counter),
-        Body::Retry { reason } => one_field(5, reason),
-        Body::Failure { hint, error } => two_fields(6, hint, error),
-        Body::Success { data } => one_field(7, data),
+        Body::Request { data, action } => two_fields(TYPE_REQUEST, data, action),
+        Body::Event { data, action } => two_fields(TYPE_EVENT, data, action),
+        Body::Busy { counter } => one_field(TYPE_BUSY, counter),
+        Body::Retry { reason } => one_field(TYPE_RETRY, reason),
+        Body::Failure { hint, error } => two_fields(TYPE_FAILURE, hint, error),
+        Body::Success { data } => one_field(TYPE_SUCCESS, data),
     }
 }
 

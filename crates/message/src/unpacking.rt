@@ -9,6 +9,11 @@ use crate::Body;
 use crate::Message;
 use crate::Origin;
 use crate::Unpacked;
+use crate::header::TYPE_BUSY;
+use crate::header::TYPE_EVENT;
+use crate::header::TYPE_FAILURE;
+use crate::header::TYPE_REQUEST;
+use crate::header::TYPE_RETRY;
 use crate::header::dword_at;
 use crate::header::hxg_type;
 use crate::header::num_dwords;
@@ -35,17 +40,17 @@ fn body(word: u32) -> Body
     let lower = word % 0x1_0000;
     let all = word % 0x1000_0000;
     match t {
-        0 => Body::Request {
+        TYPE_REQUEST => Body::Request {
             data: upper,
             action: lower,
         },
-        1 => Body::Event {
+        TYPE_EVENT => Body::Event {
             data: upper,
             action: lower,
         },
-        3 => Body::Busy { counter: all },
-        5 => Body::Retry { reason: all },
-        6 => Body::Failure {
+        TYPE_BUSY => Body::Busy { counter: all },
+        TYPE_RETRY => Body::Retry { reason: all },
+        TYPE_FAILURE => Body::Failure {
             hint: upper,
             error: lower,
         },

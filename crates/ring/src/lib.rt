@@ -1,10 +1,13 @@
 // The ring of one command transport buffer (CTB): its descriptor and its buffer, on plain numbers and slices. What a look
 // decides, and whole calls at once. States and steps stand above it, in `channel`.
+mod descriptor;
 mod memory;
 mod numbers;
 mod receiving;
+pub mod refusal;
 mod sending;
 
+pub use descriptor::DESCRIPTOR_DWORDS;
 pub use memory::mark;
 pub use memory::publish_head;
 pub use memory::publish_tail;

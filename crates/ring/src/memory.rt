@@ -1,15 +1,15 @@
-// Single words of lent memory: reads and stores that ask nothing of their caller, and the descriptor's words by their names.
+// Single words of lent memory: stores that ask nothing of their caller, and those of the descriptor's words.
 ghost use mathlib.Core.Path.{_≡_};
 ghost use lib.ListN.{set};
 ghost use Rattle.ring.specs.Ring.{HEAD, TAIL};
 ghost use Rattle.ring.specs.Numbers.{marked};
-
-// The descriptor's words.
-pub(crate) const HEAD: usize = 0;
-
-pub(crate) const TAIL: usize = 1;
-
-pub(crate) const STATUS: usize = 2;
+use crate::descriptor::HEAD;
+use crate::descriptor::STATUS;
+use crate::descriptor::STATUS_MISMATCH;
+use crate::descriptor::STATUS_OVERFLOW;
+use crate::descriptor::STATUS_UNDERFLOW;
+use crate::descriptor::TAIL;
+use crate::refusal;
 
 pub fn wide(x: u32) -> usize
     ensures { λ r. ⌜ r ≡ x ⌝ }
@@ -30,12 +30,12 @@ pub fn put(s: &mut [u32], i: usize, v: u32)
 pub fn mark(desc: &mut [u32], code: u32)
     ensures { λ _. ⌜ now (desc .exit) ≡ marked code (now (desc .entry)) ⌝ }
 {
-    if code == 7 {
-        put(desc, STATUS, 1);
-    } else if code == 8 {
-        put(desc, STATUS, 4);
-    } else if code == 9 {
-        put(desc, STATUS, 2);
+    if code == refusal::OVERFLOW {
+        put(desc, STATUS, STATUS_OVERFLOW);
+    } else if code == refusal::MISMATCH {
+        put(desc, STATUS, STATUS_MISMATCH);
+    } else if code == refusal::UNDERFLOW {
+        put(desc, STATUS, STATUS_UNDERFLOW);
     }
 }
 

@@ -4,6 +4,12 @@ ghost use Prim.Native.Nat.{_<_};
 ghost use Rattle.ring.specs.Ring.{allowed, used};
 ghost use Rattle.ring.specs.Numbers.{need, firstNeeds, lookNeeds, sendLookNeeds};
 ghost use Rattle.ring.specs.Private.{pendingNumber, pendingBy};
+use crate::descriptor::DESCRIPTOR_DWORDS;
+use crate::refusal;
+use runs::N_MAX;
+
+// 'N a multiple of 1,024 from 1,024'
+const N_UNIT: usize = 1024;
 
 // The refusal's number where the test fails, else the rest's.
 pub fn need(test: bool, number: u32, rest: u32) -> u32
@@ -16,7 +22,7 @@ pub fn need(test: bool, number: u32, rest: u32) -> u32
 pub fn allowed(n: usize) -> bool
     ensures { λ r. ⌜ r ≡ allowed n ⌝ }
 {
-    (n % 1024 == 0) & (1024 <= n) & (n <= 16384)
+    (n % N_UNIT == 0) & (N_UNIT <= n) & (n <= N_MAX)
 }
 
 // 1, 2 and 3, which every step judges first, with the lengths of the descriptor and the buffer.
@@ -24,9 +30,13 @@ pub fn first_needs(descriptor: usize, n: usize, fits: bool, rest: u32) -> u32
     ensures { λ r. ⌜ r ≡ firstNeeds descriptor n fits rest ⌝ }
 {
     need(
-        descriptor == 16,
-        1,
-        need(allowed(n), 2, need(fits, 3, rest)),
+        descriptor == DESCRIPTOR_DWORDS,
+        refusal::BAD_DESCRIPTOR,
+        need(
+            allowed(n),
+            refusal::BAD_BUFFER,
+            need(fits, refusal::BAD_STATE, rest),
+        ),
     )
 }
 
@@ -47,16 +57,16 @@ fn look_needs(n: usize, own: usize, word: usize, status: usize, head: usize, tai
     ensures { λ r. ⌜ r ≡ lookNeeds n own word status head tail 0 ⌝ }
 {
     if status != 0 {
-        return 6;
+        return refusal::BROKEN;
     }
     if n <= head {
-        return 7;
+        return refusal::OVERFLOW;
     }
     if n <= tail {
-        return 7;
+        return refusal::OVERFLOW;
     }
     if own != word {
-        return 8;
+        return refusal::MISMATCH;
     }
     0
 }
@@ -77,7 +87,7 @@ pub(crate) fn send_look_needs(
         return code;
     }
     if n - 1 - used(n, head, tail) < len {
-        return 10;
+        return refusal::FULL;
     }
     0
 }
@@ -98,7 +108,10 @@ pub(crate) fn pending(n: usize, own: usize, status: usize, head: usize, tail: us
     }
     let used = used(n, head, tail);
     if used == 0 {
-        return InUse { code: 11, used: 0 };
+        return InUse {
+            code: refusal::EMPTY,
+            used: 0,
+        };
     }
     InUse { code: 0, used }
 }

@@ -10,16 +10,18 @@ ghost use Rattle.runs.specs.Buffer.{window};
 ghost use Rattle.ring.specs.Numbers.{headerNumber, marked, receiveDecision, takeDecision};
 ghost use Rattle.ring.specs.AtOnce.{judgedHeader, wholeEnd, wholeReceive};
 ghost use Rattle.ring.specs.Private.{TakenBy};
-use crate::memory::HEAD;
-use crate::memory::STATUS;
-use crate::memory::TAIL;
+use crate::descriptor::HEAD;
+use crate::descriptor::STATUS;
+use crate::descriptor::TAIL;
 use crate::memory::mark;
 use crate::memory::publish_head;
 use crate::memory::wide;
 use crate::numbers::first_needs;
 use crate::numbers::need;
 use crate::numbers::pending;
+use crate::refusal;
 use crate::sending::WholeEnd;
+use message::MESSAGE_MAX;
 use message::dword_at;
 use runs::lay_message;
 use runs::past;
@@ -45,7 +47,10 @@ fn pending_header(own: usize, desc: &[u32], buf: &[u32]) -> JudgedHeader
     }
     let header = dword_at(buf, own);
     if p.used < message::total_length(header) {
-        return JudgedHeader { code: 9, header: 0 };
+        return JudgedHeader {
+            code: refusal::UNDERFLOW,
+            header: 0,
+        };
     }
     JudgedHeader { code: 0, header }
 }
@@ -65,7 +70,12 @@ pub fn receive_decision(fits: bool, own: usize, desc: &[u32], buf: &[u32]) -> Ju
 fn take_decision(fits: bool, own: usize, output: usize, desc: &[u32], buf: &[u32]) -> JudgedHeader
     ensures { λ r. ⌜ r ≡ judgedHeader (takeDecision fits own output (now (desc .entry)) (length (now (buf .entry))) (getD (now (buf .entry)) own 0)) own (now (buf .entry)) ⌝ }
 {
-    let code = first_needs(desc.len(), buf.len(), fits, need(256 <= output, 5, 0));
+    let code = first_needs(
+        desc.len(),
+        buf.len(),
+        fits,
+        need(MESSAGE_MAX <= output, refusal::SHORT_OUTPUT, 0),
+    );
     if code != 0 {
         return JudgedHeader { code, header: 0 };
     }
@@ -109,7 +119,7 @@ fn take_message(fits: bool, own: usize, desc: &[u32], buf: &[u32], out: &mut [u3
         };
     }
     WholeEnd {
-        code: 13,
+        code: refusal::MALFORMED,
         len: 0,
         own: past(own, len, buf.len()),
     }
@@ -120,7 +130,7 @@ fn end_receive(desc: &mut [u32], end: WholeEnd)
     requires { ⌜ ((eqb (end .code) 0 || eqb (end .code) 13) ≡ true → end .own < 2 ^ 32) ⌝ }
     ensures { λ _. ⌜ now (desc .exit) ≡ cond (eqb (end .code) 0 || eqb (end .code) 13) (set (now (desc .entry)) HEAD (end .own)) (marked (end .code) (now (desc .entry))) ⌝ }
 {
-    if (end.code == 0) | (end.code == 13) {
+    if (end.code == 0) | (end.code == refusal::MALFORMED) {
         publish_head(desc, end.own as u32);
         return;
     }

@@ -10,15 +10,16 @@ ghost use Rattle.ring.specs.Ring.{TAIL};
 ghost use Rattle.ring.specs.Numbers.{marked, numberAt, sendDecision};
 ghost use Rattle.ring.specs.AtOnce.{wholeEnd, wholeSend};
 ghost use Rattle.ring.specs.Private.{PlacedBy};
-use crate::memory::HEAD;
-use crate::memory::STATUS;
-use crate::memory::TAIL;
+use crate::descriptor::HEAD;
+use crate::descriptor::STATUS;
+use crate::descriptor::TAIL;
 use crate::memory::mark;
 use crate::memory::publish_tail;
 use crate::memory::wide;
 use crate::numbers::first_needs;
 use crate::numbers::need;
 use crate::numbers::send_look_needs;
+use crate::refusal;
 use message::dword_at;
 use runs::store_message;
 
@@ -42,7 +43,7 @@ pub fn send_decision(
     ensures { λ r. ⌜ r ≡ sendDecision fits own len header word (now (desc .entry)) n ⌝ }
 {
     let formed = message::starts_message(len, header, word);
-    let code = first_needs(desc.len(), n, fits, need(formed, 4, 0));
+    let code = first_needs(desc.len(), n, fits, need(formed, refusal::BAD_MESSAGE, 0));
     if code != 0 {
         return code;
     }

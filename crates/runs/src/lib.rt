@@ -3,6 +3,7 @@
 mod offset;
 mod runs;
 
+pub use offset::N_MAX;
 pub use offset::past;
 pub use runs::lay;
 pub use runs::lay_copy;

@@ -6,6 +6,7 @@ ghost use Prim.Native.Nat.{_+_, _-_, _≤_, _<_};
 ghost use lib.ListN.{length, drop};
 ghost use Rattle.runs.specs.Buffer;
 ghost use Rattle.runs.specs.Buffer.{window, stored, storedAt, laid, laidFrom};
+use crate::offset::N_MAX;
 use crate::offset::past;
 
 // Fills dst with the dwords of src: a straight run, with no test inside.
@@ -154,7 +155,7 @@ pub fn lay_message(
 {
     let n = buf.len();
     let head = past(own, len, n);
-    let there = (own < n) & (2 <= len) & (len <= n) & (n <= 16384);
+    let there = (own < n) & (2 <= len) & (len <= n) & (n <= N_MAX);
     if there & (len <= out.len()) {
         lay_rest(out, header, second, len, buf, own);
     }

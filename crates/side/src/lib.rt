@@ -15,3 +15,4 @@ pub use sending::send;
 pub use sending::send_look;
 pub use sending::send_publish;
 pub use sending::send_store;
+pub use words::STATE_WORDS;

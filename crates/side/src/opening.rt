@@ -2,14 +2,15 @@
 ghost use mathlib.Core.Path.{_≡_};
 ghost use Rattle.channel.specs.Opening.{opening};
 ghost use Rattle.side.specs.Words.{openedWords};
+use crate::words::STATE_WORDS;
 use crate::words::make;
 use channel::clear;
 use channel::open_number;
 
 // Opens a channel over a lent descriptor and buffer.
 pub fn open_channel(
-    sender: &mut [u32; 260],
-    receiver: &mut [u32; 260],
+    sender: &mut [u32; STATE_WORDS],
+    receiver: &mut [u32; STATE_WORDS],
     desc: &mut [u32],
     buf: &[u32],
 ) -> u32

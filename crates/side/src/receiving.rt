@@ -6,6 +6,13 @@ ghost use lib.ListN.{length, getD, take, drop};
 ghost use Rattle.runs.specs.Buffer;
 ghost use Rattle.channel.specs.Receive;
 ghost use Rattle.side.specs.Words.{stateOf, inWords};
+use crate::words::COPY;
+use crate::words::HEADER;
+use crate::words::LEN;
+use crate::words::MOVED;
+use crate::words::OWN;
+use crate::words::SECOND;
+use crate::words::STATE_WORDS;
 use crate::words::counts_of;
 use crate::words::is_idle;
 use crate::words::rest_at;
@@ -13,6 +20,7 @@ use channel::publish_number;
 use channel::receiving_number;
 use message::dword_at;
 use ring::need;
+use ring::refusal;
 use runs::past;
 
 // What a receive answers: the number, and the length L of the message laid, 0 where none is.
@@ -22,14 +30,14 @@ pub struct Laid {
 }
 
 // A whole receive.
-pub fn receive(w: &mut [u32; 260], desc: &mut [u32], buf: &[u32], out: &mut [u32]) -> Laid
+pub fn receive(w: &mut [u32; STATE_WORDS], desc: &mut [u32], buf: &[u32], out: &mut [u32]) -> Laid
     ensures { λ r. ⌜ inWords (r .code) (r .len) (now (w .exit)) (now (desc .exit)) (now (buf .entry)) (now (out .exit)) ≡ Receive.whole (stateOf (now (w .entry))) (now (out .entry)) (now (desc .entry)) (now (buf .entry)) ⌝ }
 {
     let s = counts_of(&w[..]);
     let fits = is_idle(&w[..], s, buf.len());
     let end = ring::whole_receive(fits, s.own, desc, buf, out);
-    if (end.code == 0) | (end.code == 13) {
-        w[1] = end.own as u32;
+    if (end.code == 0) | (end.code == refusal::MALFORMED) {
+        w[OWN] = end.own as u32;
     }
     Laid {
         code: end.code,
@@ -38,7 +46,7 @@ pub fn receive(w: &mut [u32; 260], desc: &mut [u32], buf: &[u32], out: &mut [u32
 }
 
 // Judges the descriptor and the header, and takes a copy of the header.
-pub fn receive_look(w: &mut [u32; 260], desc: &mut [u32], buf: &[u32]) -> u32
+pub fn receive_look(w: &mut [u32; STATE_WORDS], desc: &mut [u32], buf: &[u32]) -> u32
     ensures { λ r. ⌜ inWords r 0 (now (w .exit)) (now (desc .exit)) (now (buf .entry)) [] ≡ Receive.look (stateOf (now (w .entry))) (now (desc .entry)) (now (buf .entry)) ⌝ }
 {
     let n = buf.len();
@@ -51,26 +59,26 @@ pub fn receive_look(w: &mut [u32; 260], desc: &mut [u32], buf: &[u32]) -> u32
         return code;
     }
     let header = judged.header;
-    w[2] = message::total_length(header) as u32;
-    w[3] = 1;
-    w[4] = header;
+    w[LEN] = message::total_length(header) as u32;
+    w[MOVED] = 1;
+    w[HEADER] = header;
     0
 }
 
 // Copies the next dword of the message.
-pub fn receive_copy(w: &mut [u32; 260], desc: &[u32], buf: &[u32]) -> u32
+pub fn receive_copy(w: &mut [u32; STATE_WORDS], desc: &[u32], buf: &[u32]) -> u32
     ensures { λ r. ⌜ inWords r 0 (now (w .exit)) (now (desc .entry)) (now (buf .entry)) [] ≡ Receive.move (stateOf (now (w .entry))) (now (desc .entry)) (now (buf .entry)) ⌝ }
 {
     let n = buf.len();
     let s = counts_of(&w[..]);
     let moved = s.moved;
-    let rest = need(moved < s.len, 12, 0);
-    let code = receiving_number(s, w[4], desc.len(), n, rest);
+    let rest = need(moved < s.len, refusal::OUT_OF_TURN, 0);
+    let code = receiving_number(s, w[HEADER], desc.len(), n, rest);
     if code != 0 {
         return code;
     }
-    w[4 + moved] = dword_at(buf, past(s.own, moved, n));
-    w[3] = (moved + 1) as u32;
+    w[COPY + moved] = dword_at(buf, past(s.own, moved, n));
+    w[MOVED] = (moved + 1) as u32;
     0
 }
 
@@ -87,27 +95,30 @@ fn lay(
     requires { ⌜ (length (now w) ≡ 260) × (2 ≤ len) × (len ≤ 256) × (256 ≤ length (now out)) × (header ≡ getD (now w) 4 0) × (second ≡ getD (now w) 5 0) ⌝ }
     ensures { λ r. ⌜ (now (out .exit) ≡ take len (stateOf (now (w .entry)) .copy) ++ drop len (now (out .entry))) × (r ≡ Buffer.past n own len) × (r < 16384) ⌝ }
 {
-    let copy = &w[4..];
+    let copy = &w[COPY..];
     runs::lay_copy(out, header, second, &copy[2..len], own, n)
 }
 
 // A publish over a ring of n dwords, which it is not lent: the header cannot be read again.
-fn publish_at(w: &mut [u32; 260], desc: &mut [u32], n: usize, out: &mut [u32]) -> Laid
+fn publish_at(w: &mut [u32; STATE_WORDS], desc: &mut [u32], n: usize, out: &mut [u32]) -> Laid
     ensures { λ r. ⌜ ((b : List ℕ) → length b ≡ n → inWords (r .code) (r .len) (now (w .exit)) (now (desc .exit)) b (now (out .exit)) ≡ Receive.publish (stateOf (now (w .entry))) (now (out .entry)) (now (desc .entry)) b) ⌝ }
 {
     let s = counts_of(&w[..]);
-    let header = w[4];
-    let second = w[5];
+    let header = w[HEADER];
+    let second = w[SECOND];
     let code = publish_number(s, header, second, out.len(), desc.len(), n);
-    if (code != 0) & (code != 13) {
+    if (code != 0) & (code != refusal::MALFORMED) {
         return Laid { code, len: 0 };
     }
     let len = s.len;
-    if code == 13 {
+    if code == refusal::MALFORMED {
         let head = past(s.own, len, n) as u32;
         ring::publish_head(desc, head);
         rest_at(&mut w[..], head);
-        return Laid { code: 13, len: 0 };
+        return Laid {
+            code: refusal::MALFORMED,
+            len: 0,
+        };
     }
     let head = lay(out, header, second, &w[..], len, s.own, n) as u32;
     ring::publish_head(desc, head);
@@ -116,7 +127,12 @@ fn publish_at(w: &mut [u32; 260], desc: &mut [u32], n: usize, out: &mut [u32]) -
 }
 
 // Publishes HEAD past the message, and lays the copy at the front of the output where it is well formed. The ring is not read.
-pub fn receive_publish(w: &mut [u32; 260], desc: &mut [u32], buf: &[u32], out: &mut [u32]) -> Laid
+pub fn receive_publish(
+    w: &mut [u32; STATE_WORDS],
+    desc: &mut [u32],
+    buf: &[u32],
+    out: &mut [u32],
+) -> Laid
     ensures { λ r. ⌜ inWords (r .code) (r .len) (now (w .exit)) (now (desc .exit)) (now (buf .entry)) (now (out .exit)) ≡ Receive.publish (stateOf (now (w .entry))) (now (out .entry)) (now (desc .entry)) (now (buf .entry)) ⌝ }
 {
     publish_at(w, desc, buf.len(), out)

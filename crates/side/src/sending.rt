@@ -5,6 +5,11 @@ ghost use Prim.Native.Nat.{ℕ};
 ghost use lib.ListN.{length};
 ghost use Rattle.channel.specs.Send;
 ghost use Rattle.side.specs.Words.{stateOf, inWords};
+use crate::words::HEADER;
+use crate::words::MOVED;
+use crate::words::OWN;
+use crate::words::SECOND;
+use crate::words::STATE_WORDS;
 use crate::words::copy_dword;
 use crate::words::counts_of;
 use crate::words::is_idle;
@@ -15,21 +20,21 @@ use message::dword_at;
 use runs::past;
 
 // A whole send.
-pub fn send(w: &mut [u32; 260], desc: &mut [u32], buf: &mut [u32], msg: &[u32]) -> u32
+pub fn send(w: &mut [u32; STATE_WORDS], desc: &mut [u32], buf: &mut [u32], msg: &[u32]) -> u32
     ensures { λ r. ⌜ inWords r 0 (now (w .exit)) (now (desc .exit)) (now (buf .exit)) [] ≡ Send.whole (stateOf (now (w .entry))) (now (msg .entry)) (now (desc .entry)) (now (buf .entry)) ⌝ }
 {
     let s = counts_of(&w[..]);
     let fits = is_idle(&w[..], s, buf.len());
     let end = ring::whole_send(fits, s.own, desc, buf, msg);
     if end.code == 0 {
-        w[1] = end.own as u32;
+        w[OWN] = end.own as u32;
     }
     end.code
 }
 
 // Judges a message and the descriptor, and takes a copy of the message. Its first two dwords are read once: those that are judged are those that are
 // copied.
-pub fn send_look(w: &mut [u32; 260], desc: &mut [u32], buf: &[u32], msg: &[u32]) -> u32
+pub fn send_look(w: &mut [u32; STATE_WORDS], desc: &mut [u32], buf: &[u32], msg: &[u32]) -> u32
     ensures { λ r. ⌜ inWords r 0 (now (w .exit)) (now (desc .exit)) (now (buf .entry)) [] ≡ Send.look (stateOf (now (w .entry))) (now (msg .entry)) (now (desc .entry)) (now (buf .entry)) ⌝ }
 {
     let n = buf.len();
@@ -47,30 +52,30 @@ pub fn send_look(w: &mut [u32; 260], desc: &mut [u32], buf: &[u32], msg: &[u32])
 }
 
 // Stores the next dword of the copy in the buffer.
-pub fn send_store(w: &mut [u32; 260], desc: &[u32], buf: &mut [u32]) -> u32
+pub fn send_store(w: &mut [u32; STATE_WORDS], desc: &[u32], buf: &mut [u32]) -> u32
     ensures { λ r. ⌜ inWords r 0 (now (w .exit)) (now (desc .entry)) (now (buf .exit)) [] ≡ Send.move (stateOf (now (w .entry))) (now (desc .entry)) (now (buf .entry)) ⌝ }
 {
     let n = buf.len();
     let s = counts_of(&w[..]);
     let moved = s.moved;
-    let header = w[4];
-    let word = w[5];
+    let header = w[HEADER];
+    let word = w[SECOND];
     let code = sending_number(s, header, word, desc.len(), n, moved < s.len);
     if code != 0 {
         return code;
     }
     let dword = copy_dword(&w[..], header, word, moved);
     ring::put(buf, past(s.own, moved, n), dword);
-    w[3] = (moved + 1) as u32;
+    w[MOVED] = (moved + 1) as u32;
     0
 }
 
 // A publish over a ring of n dwords, which it is not lent.
-fn publish_at(w: &mut [u32; 260], desc: &mut [u32], n: usize) -> u32
+fn publish_at(w: &mut [u32; STATE_WORDS], desc: &mut [u32], n: usize) -> u32
     ensures { λ r. ⌜ ((b : List ℕ) → length b ≡ n → inWords r 0 (now (w .exit)) (now (desc .exit)) b [] ≡ Send.publish (stateOf (now (w .entry))) (now (desc .entry)) b) ⌝ }
 {
     let s = counts_of(&w[..]);
-    let code = sending_number(s, w[4], w[5], desc.len(), n, s.len <= s.moved);
+    let code = sending_number(s, w[HEADER], w[SECOND], desc.len(), n, s.len <= s.moved);
     if code != 0 {
         return code;
     }
@@ -81,7 +86,7 @@ fn publish_at(w: &mut [u32; 260], desc: &mut [u32], n: usize) -> u32
 }
 
 // Publishes TAIL past the message, once all of it is stored.
-pub fn send_publish(w: &mut [u32; 260], desc: &mut [u32], buf: &[u32]) -> u32
+pub fn send_publish(w: &mut [u32; STATE_WORDS], desc: &mut [u32], buf: &[u32]) -> u32
     ensures { λ r. ⌜ inWords r 0 (now (w .exit)) (now (desc .exit)) (now (buf .entry)) [] ≡ Send.publish (stateOf (now (w .entry))) (now (desc .entry)) (now (buf .entry)) ⌝ }
 {
     publish_at(w, desc, buf.len())

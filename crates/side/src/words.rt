@@ -10,16 +10,33 @@ use channel::Counts;
 use channel::clear;
 use ring::wide;
 
+// The words of a state: n, own, len, moved, and the copy of the message, of which the first two dwords are judged.
+pub const STATE_WORDS: usize = 260;
+
+pub(crate) const N: usize = 0;
+
+pub(crate) const OWN: usize = 1;
+
+pub(crate) const LEN: usize = 2;
+
+pub(crate) const MOVED: usize = 3;
+
+pub(crate) const COPY: usize = 4;
+
+pub(crate) const HEADER: usize = COPY;
+
+pub(crate) const SECOND: usize = COPY + 1;
+
 // The numbers of the state. They are judged and used from here: no word of them is read again.
 pub(crate) fn counts_of(w: &[u32]) -> Counts
     requires { ⌜ length (now w) ≡ 260 ⌝ }
     ensures { λ r. ⌜ r ≡ countsOf (stateOf (now (w .entry))) ⌝ }
 {
     Counts {
-        n: wide(w[0]),
-        own: wide(w[1]),
-        len: wide(w[2]),
-        moved: wide(w[3]),
+        n: wide(w[N]),
+        own: wide(w[OWN]),
+        len: wide(w[LEN]),
+        moved: wide(w[MOVED]),
     }
 }
 
@@ -28,7 +45,7 @@ pub(crate) fn is_idle(w: &[u32], s: Counts, n: usize) -> bool
     requires { ⌜ (length (now w) ≡ 260) × (s ≡ countsOf (stateOf (now w))) ⌝ }
     ensures { λ r. ⌜ r ≡ idle n (stateOf (now (w .entry))) ⌝ }
 {
-    channel::fits_idle(n, s, &w[4..])
+    channel::fits_idle(n, s, &w[COPY..])
 }
 
 // Makes the copy all zeros.
@@ -36,7 +53,7 @@ fn clear_copy(w: &mut [u32])
     requires { ⌜ 4 ≤ length (now w) ⌝ }
     ensures { λ _. ⌜ now (w .exit) ≡ take 4 (now (w .entry)) ++ replicate (length (now (w .entry)) - 4) 0 ⌝ }
 {
-    clear(&mut w[4..]);
+    clear(&mut w[COPY..]);
 }
 
 // Makes the words idle at an own offset.
@@ -45,9 +62,9 @@ pub(crate) fn rest_at(w: &mut [u32], own: u32)
     ensures { λ _. ⌜ stateOf (now (w .exit)) ≡ idleAt (getD (now (w .entry)) 0 0) own ⌝ }
 {
     clear_copy(w);
-    w[1] = own;
-    w[2] = 0;
-    w[3] = 0;
+    w[OWN] = own;
+    w[LEN] = 0;
+    w[MOVED] = 0;
 }
 
 // Makes the words idle at offset 0, made for n dwords.
@@ -56,7 +73,7 @@ pub(crate) fn make(w: &mut [u32], n: u32)
     ensures { λ _. ⌜ stateOf (now (w .exit)) ≡ idleAt n 0 ⌝ }
 {
     rest_at(w, 0);
-    w[0] = n;
+    w[N] = n;
 }
 
 // Puts a message of these two dwords and the others at the front of the copy.
@@ -64,7 +81,7 @@ fn fill_copy(w: &mut [u32], header: u32, word: u32, rest: &[u32])
     requires { ⌜ 4 + (2 + length (now rest)) ≤ length (now w) ⌝ }
     ensures { λ _. ⌜ now (w .exit) ≡ take 4 (now (w .entry)) ++ ((header ∷ word ∷ now (rest .entry)) ++ drop (length (header ∷ word ∷ now (rest .entry))) (drop 4 (now (w .entry)))) ⌝ }
 {
-    runs::lay(&mut w[4..], header, word, rest);
+    runs::lay(&mut w[COPY..], header, word, rest);
 }
 
 // Makes the words of an idle state active with a message.
@@ -73,7 +90,7 @@ pub(crate) fn load(w: &mut [u32], header: u32, word: u32, rest: &[u32])
     ensures { λ _. ⌜ stateOf (now (w .exit)) ≡ Send.loaded (stateOf (now (w .entry))) (header ∷ word ∷ now (rest .entry)) ⌝ }
 {
     fill_copy(w, header, word, rest);
-    w[2] = (2 + rest.len()) as u32;
+    w[LEN] = (2 + rest.len()) as u32;
 }
 
 // Dword k of the copy, of which the first two were judged: those are given by value.
@@ -87,5 +104,5 @@ pub(crate) fn copy_dword(w: &[u32], header: u32, word: u32, k: usize) -> u32
     if k == 1 {
         return word;
     }
-    message::dword_at(w, 4 + k)
+    message::dword_at(w, COPY + k)
 }
