@@ -17,8 +17,9 @@ const LEAST: u64 = 50_000;
 
 /// A number of the command line, underscores and commas allowed.
 fn parse(args: &[String], at: usize, otherwise: u64) -> Result<u64, String> {
-    let Some(text) = args.get(at) else {
-        return Ok(otherwise);
+    let text = match args.get(at) {
+        Some(text) => text,
+        None => return Ok(otherwise),
     };
     let plain = text.replace(['_', ','], "");
     let parsed = match plain.strip_prefix("0x") {
@@ -63,9 +64,12 @@ fn all(cases: u64, seed: u64) -> ExitCode {
 }
 
 fn one(name: &str, case: u64, seed: u64) -> ExitCode {
-    let Some(group) = GROUPS.iter().position(|group| group.name == name) else {
-        println!("no group {name}");
-        return ExitCode::FAILURE;
+    let group = match GROUPS.iter().position(|group| group.name == name) {
+        Some(group) => group,
+        None => {
+            println!("no group {name}");
+            return ExitCode::FAILURE;
+        }
     };
     match run_one(seed, group, case, &mut Tally::default()) {
         Ok(()) => {
