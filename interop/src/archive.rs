@@ -1,19 +1,23 @@
 //! A channel run by the archive: the same face as the model's, over lent
 //! memory with guards.
 
+use crate::functions::Fun;
+use crate::guc::constants::*;
 use crate::guc::{self, Received, Words};
 use crate::lent::{words, Lent};
 use crate::same::same_lent;
-use crate::tally::Fun;
 use model::channel::State;
 use model::generate::Rng;
 use model::plain::{Operation, Reply};
 
 /// A model's state as the 260 words the archive takes.
 pub fn state_words(state: &State) -> Words {
-    let mut w = [0; 260];
-    w[..4].copy_from_slice(&[state.n, state.own, state.len, state.moved]);
-    w[4..].copy_from_slice(&state.copy);
+    let mut w = [0; GUC_STATE_WORDS as usize];
+    w[GUC_STATE_N as usize] = state.n;
+    w[GUC_STATE_OWN as usize] = state.own;
+    w[GUC_STATE_LEN as usize] = state.len;
+    w[GUC_STATE_MOVED as usize] = state.moved;
+    w[GUC_STATE_COPY as usize..].copy_from_slice(&state.copy);
     w
 }
 
@@ -48,7 +52,7 @@ impl Archive {
     /// Opens over this buffer, whatever descriptor and states held before.
     /// Answers the number too.
     pub fn open(rng: &mut Rng, desc: &[u32], buf: &[u32]) -> (u32, Archive) {
-        let mut junk = || rng.words(260);
+        let mut junk = || rng.words(GUC_STATE_WORDS as usize);
         let (sender, receiver) = (junk(), junk());
         let mut channel = Archive {
             desc: words(rng, desc),

@@ -3,8 +3,9 @@
 //! between, through the archive and the model's steps.
 
 use crate::archive::{fun_of, state_words, Archive};
+use crate::functions::Fun;
 use crate::same::{same, same_lent, Outcome};
-use crate::tally::{Fun, Tally};
+use crate::tally::Tally;
 use model::channel::{HEAD, STATUS, TAIL};
 use model::generate::{buffer_length, near_malformed, operations, Rng};
 use model::plain::{Operation, Plain, Reply};

@@ -1,6 +1,9 @@
 //! The report at the end: cases, seed, and the count for each number.
 
-use crate::tally::{number, Tally, FUNCTIONS, MARKS, NUMBERS};
+use crate::edges::{BOUNDARIES, TRUNCATED};
+use crate::functions::{number, FUNCTIONS, NUMBERS};
+use crate::sets::SETS;
+use crate::tally::{Tally, MARKS};
 use std::fmt::Write;
 
 /// What each number means, in a few words.
@@ -73,6 +76,33 @@ pub fn by_mark(tally: &Tally) -> String {
     for name in MARKS {
         let count = grouped(tally.marked(name));
         writeln!(text, "{count:>12}   {name}").expect("a string takes it");
+    }
+    text
+}
+
+/// Counts of both sides of the boundaries, of all functions that have them.
+pub fn by_boundary(tally: &Tally) -> String {
+    let mut text =
+        String::from("boundary                             refused  side x times, of functions\n");
+    for row in &BOUNDARIES {
+        let counts = tally.both_sides(row.edge).map(grouped);
+        let refused = match row.number {
+            TRUNCATED => format!("cut: {}", row.sides[row.refused]),
+            number => format!("{number}: {}", row.sides[row.refused]),
+        };
+        let each = [0, 1].map(|side| format!("{} x {}", row.sides[side], counts[side]));
+        let line = format!("{:<34}{refused:<16}{}", row.name, each.join(", "));
+        writeln!(text, "{line}, of {}", row.funs.len()).expect("a string takes it");
+    }
+    text
+}
+
+/// Counts of the members of sets.
+pub fn by_set(tally: &Tally) -> String {
+    let mut text = String::from("members   each at least    set\n");
+    for (set, name, members) in SETS {
+        let least = grouped(tally.members.least(set));
+        writeln!(text, "{members:>7}   {least:>13}    {name}").expect("a string takes it");
     }
     text
 }
