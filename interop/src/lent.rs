@@ -1,20 +1,24 @@
 //! Memory lent to the archive, a copy of the case's slice. Mostly it lies
 //! between guards, at varying alignment: a write outside is seen, and so is code
 //! that counts on more than the element's own alignment. Now and then it lies
-//! against a page that may not be touched, where a read outside is seen as well.
+//! against a page that may not be touched, with guards on its other side; there
+//! a read outside is seen as well.
 
 use crate::guc::pages::Pages;
 use model::generate::Rng;
 
-/// A slice to lend.
+/// A slice to lend: `count` values after `front` guards, more guards after them.
 #[derive(Debug)]
 pub struct Lent<T> {
-    place: Place<T>,
+    all: Memory<T>,
+    front: usize,
+    count: usize,
+    start: u32,
 }
 
 #[derive(Debug)]
-enum Place<T> {
-    Guarded { all: Vec<T>, front: usize, count: usize, start: u32 },
+enum Memory<T> {
+    Heap(Vec<T>),
     Paged(Pages<T>),
 }
 
@@ -48,53 +52,69 @@ fn guards<T: Guard>(start: u32, places: std::ops::Range<usize>) -> impl Iterator
     places.map(move |place| T::guard(start, place))
 }
 
+/// The slice with so many guards before and after it, and where those start.
+fn between_guards<T: Guard>(
+    rng: &mut Rng,
+    contents: &[T],
+    front: usize,
+    behind: usize,
+) -> (Vec<T>, u32) {
+    let (start, back) = (rng.word(), front + contents.len());
+    let mut all = Vec::with_capacity(back + behind);
+    all.extend(guards::<T>(start, 0..front));
+    all.extend_from_slice(contents);
+    all.extend(guards::<T>(start, back..back + behind));
+    (all, start)
+}
+
 impl<T: Guard> Lent<T> {
     pub fn new(rng: &mut Rng, contents: &[T]) -> Lent<T> {
         if rng.chance(1, PAGED) {
             let at_end = rng.chance(3, 4);
-            if let Some(pages) = Pages::new(contents, at_end) {
-                return Lent { place: Place::Paged(pages) };
+            let (front, back) = if at_end { (SIDE, 0) } else { (0, SIDE) };
+            let (all, start) = between_guards(rng, contents, front, back);
+            if let Some(pages) = Pages::new(&all, at_end) {
+                return Lent { all: Memory::Paged(pages), front, count: contents.len(), start };
             }
         }
-        let start = rng.word();
         let front = SIDE + rng.between(0, SHIFT) as usize;
-        let back = front + contents.len();
-        let mut all = Vec::with_capacity(back + SIDE);
-        all.extend(guards::<T>(start, 0..front));
-        all.extend_from_slice(contents);
-        all.extend(guards::<T>(start, back..back + SIDE));
-        Lent { place: Place::Guarded { all, front, count: contents.len(), start } }
+        let (all, start) = between_guards(rng, contents, front, SIDE);
+        Lent { all: Memory::Heap(all), front, count: contents.len(), start }
+    }
+
+    fn all(&self) -> &[T] {
+        match &self.all {
+            Memory::Heap(all) => all,
+            Memory::Paged(pages) => pages.get(),
+        }
+    }
+
+    fn all_mut(&mut self) -> &mut [T] {
+        match &mut self.all {
+            Memory::Heap(all) => all,
+            Memory::Paged(pages) => pages.get_mut(),
+        }
     }
 
     pub fn get(&self) -> &[T] {
-        match &self.place {
-            Place::Guarded { all, front, count, .. } => &all[*front..*front + *count],
-            Place::Paged(pages) => pages.get(),
-        }
+        &self.all()[self.front..self.front + self.count]
     }
 
     pub fn get_mut(&mut self) -> &mut [T] {
-        match &mut self.place {
-            Place::Guarded { all, front, count, .. } => &mut all[*front..*front + *count],
-            Place::Paged(pages) => pages.get_mut(),
-        }
+        let (from, to) = (self.front, self.front + self.count);
+        &mut self.all_mut()[from..to]
     }
 
-    /// Whether it lies against such a page.
+    /// Whether it lies against a page that may not be touched.
     pub fn paged(&self) -> bool {
-        matches!(self.place, Place::Paged(_))
+        matches!(self.all, Memory::Paged(_))
     }
 
     /// Whether the guards still stand.
     pub fn intact(&self) -> bool {
-        match &self.place {
-            Place::Guarded { all, front, count, start } => {
-                let back = front + count;
-                all[..*front].iter().copied().eq(guards(*start, 0..*front))
-                    && all[back..].iter().copied().eq(guards(*start, back..all.len()))
-            }
-            Place::Paged(_) => true,
-        }
+        let (all, back) = (self.all(), self.front + self.count);
+        all[..self.front].iter().copied().eq(guards(self.start, 0..self.front))
+            && all[back..].iter().copied().eq(guards(self.start, back..all.len()))
     }
 }
 
@@ -112,37 +132,56 @@ pub fn bytes(rng: &mut Rng, contents: &[u8]) -> Lent<u8> {
 mod tests {
     use super::*;
 
-    /// Tries a write on guarded slices: whether it is seen each time.
-    fn seen(write: impl Fn(&mut Rng, &mut [u32], usize, usize)) -> bool {
+    /// Tries a write on slices with guards on both sides: whether each is seen.
+    fn seen(write: impl Fn(&mut [u32], usize, usize)) -> bool {
         let mut rng = Rng::new(4);
-        let mut lents = (0..200).map(|_| words(&mut rng.clone(), &rng.words(3)));
-        lents.all(|mut lent| {
-            if let Place::Guarded { all, front, count, .. } = &mut lent.place {
-                write(&mut Rng::new(5), all, *front, *front + *count);
-                return !lent.intact();
+        let mut tried = (0..200).map(|_| {
+            let contents = rng.words(3);
+            let mut lent = words(&mut rng, &contents);
+            let (front, back) = (lent.front, lent.front + lent.count);
+            let both = !lent.paged();
+            if both {
+                write(lent.all_mut(), front, back);
             }
-            true
-        })
+            !both || !lent.intact()
+        });
+        tried.all(|seen| seen)
     }
 
     /// A changed guard on either side is seen.
     #[test]
     fn a_write_outside_is_seen() {
-        assert!(!seen(|_, _, _, _| {}));
-        assert!(seen(|_, all, _, _| all[0] ^= 1));
-        assert!(seen(|_, all, front, _| all[front - 1] ^= 1 << 31));
-        assert!(seen(|_, all, _, back| all[back] ^= 1));
-        assert!(seen(|rng, all, _, back| all[back + rng.below(SIDE as u64) as usize] = 0));
-        assert!(seen(|_, all, _, _| *all.last_mut().expect("guards") ^= 1));
+        assert!(!seen(|_, _, _| {}));
+        assert!(seen(|all, _, _| all[0] ^= 1));
+        assert!(seen(|all, front, _| all[front - 1] ^= 1 << 31));
+        assert!(seen(|all, _, back| all[back] ^= 1));
+        assert!(seen(|all, _, back| all[back + SIDE - 1] = 0));
     }
 
     /// So is a guard that took its neighbour's value, and all of them shifted.
     #[test]
     fn a_neighbours_value_is_seen() {
-        assert!(seen(|_, all, front, _| all[front - 1] = all[front - 2]));
-        assert!(seen(|_, all, _, back| all[back] = all[back + 1]));
-        assert!(seen(|_, all, _, back| all.copy_within(back..back + 3, back + 1)));
+        assert!(seen(|all, front, _| all[front - 1] = all[front - 2]));
+        assert!(seen(|all, front, _| all[front - 1] = all[front]));
+        assert!(seen(|all, _, back| all[back] = all[back + 1]));
+        assert!(seen(|all, _, back| all.copy_within(back..back + 3, back + 1)));
         let bytes: Vec<u8> = guards(7, 0..256).collect();
         assert!((0..256).all(|at| !bytes[..at].contains(&bytes[at])));
+    }
+
+    /// The side of a slice that lies against no page has guards too.
+    #[test]
+    fn a_write_on_the_open_side_is_seen() {
+        let mut rng = Rng::new(6);
+        let lents = (0..400).map(|_| words(&mut rng, &[5; 3]));
+        let mut paged: Vec<Lent<u32>> = lents.filter(|lent| lent.paged()).collect();
+        assert!(paged.iter().any(|lent| lent.front == 0));
+        assert!(paged.iter().any(|lent| lent.front == SIDE));
+        for lent in &mut paged {
+            let at = if lent.front == 0 { lent.count } else { lent.front - 1 };
+            assert!(lent.intact());
+            lent.all_mut()[at] ^= 1;
+            assert!(!lent.intact());
+        }
     }
 }

@@ -80,19 +80,21 @@ pub fn by_mark(tally: &Tally) -> String {
     text
 }
 
-/// Counts of both sides of the boundaries, of all functions that have them.
+/// Counts of both sides of the boundaries, over all functions that have them.
 pub fn by_boundary(tally: &Tally) -> String {
     let mut text =
-        String::from("boundary                             refused  side x times, of functions\n");
+        String::from("boundary                          side [refused by] x times, of functions\n");
     for row in &BOUNDARIES {
-        let counts = tally.both_sides(row.edge).map(grouped);
-        let refused = match row.number {
-            TRUNCATED => format!("cut: {}", row.sides[row.refused]),
-            number => format!("{number}: {}", row.sides[row.refused]),
+        let counts = tally.both_sides(row.edge);
+        let said = |side: usize| match row.number {
+            _ if side != row.refused => String::new(),
+            TRUNCATED => " [truncated]".to_string(),
+            number => format!(" [{number}]"),
         };
-        let each = [0, 1].map(|side| format!("{} x {}", row.sides[side], counts[side]));
-        let line = format!("{:<34}{refused:<16}{}", row.name, each.join(", "));
-        writeln!(text, "{line}, of {}", row.funs.len()).expect("a string takes it");
+        let each = [0, 1]
+            .map(|side| format!("{}{} x {}", row.sides[side], said(side), grouped(counts[side])));
+        let line = format!("{:<34}{}, of {}", row.name, each.join(", "), row.funs.len());
+        writeln!(text, "{line}").expect("a string takes it");
     }
     text
 }
