@@ -81,14 +81,11 @@ fn some_room(rng: &mut Rng, len: usize) -> usize {
     }
 }
 
-/// Counts where the room stood to the part.
+/// Counts what a copy left of its destination.
 fn mark_room(tally: &mut Tally, code: u32, len: usize, room: usize) {
     match code {
-        0 if room == len && len > 0 => tally.mark("room exactly enough", 1),
-        0 if room > len => tally.mark("room longer: rest unchanged", 1),
-        100 if room + 1 == len => tally.mark("room one byte short", 1),
-        100 => {}
-        0 => {}
+        GUC_OK if room > len => tally.mark("room longer: rest unchanged", 1),
+        GUC_OK | GUC_NO_ROOM => {}
         _ => tally.mark("refused copy: destination unchanged", 1),
     }
 }

@@ -113,8 +113,8 @@ impl<T: Guard> Lent<T> {
     /// Whether the guards still stand.
     pub fn intact(&self) -> bool {
         let (all, back) = (self.all(), self.front + self.count);
-        all[..self.front].iter().copied().eq(guards(self.start, 0..self.front))
-            && all[back..].iter().copied().eq(guards(self.start, back..all.len()))
+        all[..self.front].iter().copied().eq(guards::<T>(self.start, 0..self.front))
+            && all[back..].iter().copied().eq(guards::<T>(self.start, back..all.len()))
     }
 }
 

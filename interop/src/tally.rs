@@ -7,7 +7,7 @@ use crate::sets::Members;
 use std::collections::BTreeMap;
 
 /// Things that must come up beside the numbers.
-pub const MARKS: [&str; 30] = [
+pub const MARKS: [&str; 28] = [
     "output longer than 256: rest unchanged",
     "message across the ring's end",
     "ring full after an operation",
@@ -18,8 +18,6 @@ pub const MARKS: [&str; 30] = [
     "unpacked, then packed",
     "image truncated",
     "image full",
-    "room exactly enough",
-    "room one byte short",
     "room longer: rest unchanged",
     "refused copy: destination unchanged",
     "part of 0 bytes at the blob's end",
