@@ -46,18 +46,22 @@ pub fn directory_of(rng: &mut Rng, name: &[u8], part: Vec<u8>) -> CpdCase {
     CpdCase { blob, name: name.to_vec() }
 }
 
-/// For each name and each of its 96 bits: first an entry with that bit changed,
-/// then the entry itself.
+/// For each name and each of its 96 bits: an entry with that bit changed, and
+/// behind it nothing or the entry itself.
 pub fn every_name_bit(rng: &mut Rng) -> Vec<CpdCase> {
     let one = |index: usize| {
-        let name = sought(rng, index / 96);
+        let (bit, kind) = (index % 96, index / 192);
+        let name = sought(rng, kind);
         let (right, mut wrong) = (padded(&name), padded(&name));
-        wrong[index % 96 / 8] ^= 1 << (index % 8);
+        wrong[bit / 8] ^= 1 << (bit % 8);
+        let mut parts = vec![(wrong, contents(rng, &wrong))];
+        if index / 96 % 2 == 1 {
+            parts.push((right, contents(rng, &right)));
+        }
         let header = header(rng);
-        let parts = vec![(wrong, rng.bytes(50)), (right, contents(rng, &right))];
         CpdCase { blob: directory(rng, header, &laid(header, parts)), name }
     };
-    (0..3 * 96).map(one).collect()
+    (0..3 * 2 * 96).map(one).collect()
 }
 
 /// Each header length, with a manifest and an image behind it.
