@@ -1,18 +1,23 @@
 //! A channel run by the archive: the same face as the model's, over lent
 //! memory with guards.
 
+use crate::functions::Fun;
+use crate::guc::constants::*;
 use crate::guc::{self, Received, Words};
 use crate::lent::{words, Lent};
-use crate::tally::Fun;
+use crate::same::same_lent;
 use model::channel::State;
 use model::generate::Rng;
 use model::plain::{Operation, Reply};
 
 /// A model's state as the 260 words the archive takes.
 pub fn state_words(state: &State) -> Words {
-    let mut w = [0; 260];
-    w[..4].copy_from_slice(&[state.n, state.own, state.len, state.moved]);
-    w[4..].copy_from_slice(&state.copy);
+    let mut w = [0; GUC_STATE_WORDS as usize];
+    w[GUC_STATE_N as usize] = state.n;
+    w[GUC_STATE_OWN as usize] = state.own;
+    w[GUC_STATE_LEN as usize] = state.len;
+    w[GUC_STATE_MOVED as usize] = state.moved;
+    w[GUC_STATE_COPY as usize..].copy_from_slice(&state.copy);
     w
 }
 
@@ -47,7 +52,7 @@ impl Archive {
     /// Opens over this buffer, whatever descriptor and states held before.
     /// Answers the number too.
     pub fn open(rng: &mut Rng, desc: &[u32], buf: &[u32]) -> (u32, Archive) {
-        let mut junk = || rng.words(260);
+        let mut junk = || rng.words(GUC_STATE_WORDS as usize);
         let (sender, receiver) = (junk(), junk());
         let mut channel = Archive {
             desc: words(rng, desc),
@@ -60,16 +65,24 @@ impl Archive {
         (code, channel)
     }
 
-    /// Runs one operation; the output, if there is one, is lent with guards too.
-    /// Answers also whether those still stand.
-    pub fn apply(&mut self, rng: &mut Rng, operation: &Operation) -> (Reply, bool) {
+    /// Runs one operation; its message or output is lent with guards too. An
+    /// error says what was written that may not be.
+    pub fn apply(&mut self, rng: &mut Rng, operation: &Operation) -> Result<Reply, String> {
         let Archive { desc, buf, sender, receiver } = self;
         let (s, r, d) = (as_state(sender), as_state(receiver), desc.get_mut());
         let code = match operation {
-            Operation::SendLook(msg) => guc::send_look(s, d, buf.get(), msg),
+            Operation::SendLook(dwords) => {
+                let msg = words(rng, dwords);
+                let code = guc::send_look(s, d, buf.get(), msg.get());
+                same_lent("message", &msg, dwords).map(|()| code)?
+            }
             Operation::SendMove => guc::send_store(s, d, buf.get_mut()),
             Operation::SendPublish => guc::send_publish(s, d, buf.get()),
-            Operation::SendWhole(msg) => guc::send(s, d, buf.get_mut(), msg),
+            Operation::SendWhole(dwords) => {
+                let msg = words(rng, dwords);
+                let code = guc::send(s, d, buf.get_mut(), msg.get());
+                same_lent("message", &msg, dwords).map(|()| code)?
+            }
             Operation::ReceiveLook => guc::receive_look(r, d, buf.get()),
             Operation::ReceiveMove => guc::receive_copy(r, d, buf.get()),
             Operation::ReceivePublish(lent) => {
@@ -83,12 +96,13 @@ impl Archive {
                 return received(got, &out);
             }
         };
-        (Reply { code, len: 0, output: Vec::new() }, true)
+        Ok(Reply { code, len: 0, output: Vec::new() })
     }
 }
 
 /// A receive's answer with its output afterwards.
-fn received(got: Received, out: &Lent<u32>) -> (Reply, bool) {
-    let len = u32::try_from(got.len).unwrap_or(u32::MAX);
-    (Reply { code: got.code, len, output: out.get().to_vec() }, out.intact())
+fn received(got: Received, out: &Lent<u32>) -> Result<Reply, String> {
+    let output = out.get().to_vec();
+    same_lent("output", out, &output)?;
+    Ok(Reply { code: got.code, len: u32::try_from(got.len).unwrap_or(u32::MAX), output })
 }

@@ -2,10 +2,12 @@
 //! states, descriptors, buffers, messages and outputs.
 
 use crate::archive::{as_state, state_words};
-use crate::guc;
+use crate::edges::calls::of_call;
+use crate::functions::Fun;
+use crate::guc::{self, constants::GUC_STATE_WORDS};
 use crate::lent::{words, Lent};
 use crate::same::{same, same_lent, Outcome};
-use crate::tally::{Fun, Tally};
+use crate::tally::Tally;
 use model::channel::Answer;
 use model::generate::{self, Rng};
 use model::run::{Case, Op};
@@ -23,7 +25,7 @@ struct Memory {
 
 impl Memory {
     fn new(rng: &mut Rng, case: &Case) -> Memory {
-        let junk = rng.words(260);
+        let junk = rng.words(GUC_STATE_WORDS as usize);
         Memory {
             state: words(rng, &state_words(&case.state)),
             other: words(rng, &junk),
@@ -89,8 +91,13 @@ fn fun_of(op: Op) -> Fun {
 
 /// One call, made by both.
 pub fn check(rng: &mut Rng, tally: &mut Tally) -> Outcome {
-    let mut case = generate::case(rng);
-    let op = case.op;
+    let case = generate::case(rng);
+    check_case(rng, tally, case)
+}
+
+/// This call, made by both.
+pub fn check_case(rng: &mut Rng, tally: &mut Tally, mut case: Case) -> Outcome {
+    let (op, stands) = (case.op, of_call(&case));
     let mut memory = Memory::new(rng, &case);
     let (code, len) = memory.call(op);
     let answer = case.run();
@@ -98,7 +105,8 @@ pub fn check(rng: &mut Rng, tally: &mut Tally) -> Outcome {
     same("number", code, answer.code).map_err(named)?;
     same("L", len, answer.len as usize).map_err(named)?;
     memory.compare(&case, &answer).map_err(named)?;
-    tally.answer(fun_of(op), code);
+    tally.answer_at(fun_of(op), code, &stands).map_err(named)?;
+    tally.input(&stands);
     tally.mark("call with a slice against a forbidden page", memory.paged() as u64);
     if answer.len > 0 && case.out.len() > 256 {
         tally.mark("output longer than 256: rest unchanged", 1);

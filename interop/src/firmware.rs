@@ -1,10 +1,16 @@
 //! CSS images and code partition directories: answers, parts, versions, and
 //! copies with a destination exactly long enough, one short, and longer.
 
+use crate::edges::directories::{of_directory, of_huc, of_manifest};
+use crate::edges::images::{of_image, of_room, of_which};
+use crate::edges::{Stands, TRUNCATED};
+use crate::functions::Fun;
+use crate::guc::constants::*;
 use crate::guc::{self, Copied, Css, Manifest, Part, Version};
 use crate::lent::{bytes, Lent};
 use crate::same::{same, same_lent, Outcome};
-use crate::tally::{Fun, Tally};
+use crate::sets::Set;
+use crate::tally::Tally;
 use model::cpd;
 use model::css::{self, Image};
 use model::generate::{cpd_case, css_blob, Rng};
@@ -37,11 +43,11 @@ const HUC: Family = Family {
 /// A component's answer; 101 for any but the four, before all else.
 fn expected_part(image: &Image, which: u32) -> Part {
     let span = match which {
-        0 => image.ucode,
-        1 => image.rsa,
-        2 => image.modulus,
-        3 => image.exponent,
-        _ => return Part { code: 101, truncated: 0, start: 0, len: 0 },
+        GUC_PART_UCODE => image.ucode,
+        GUC_PART_RSA => image.rsa,
+        GUC_PART_MODULUS => image.modulus,
+        GUC_PART_EXPONENT => image.exponent,
+        _ => return Part { code: GUC_NO_SUCH, truncated: 0, start: 0, len: 0 },
     };
     Part {
         code: image.code,
@@ -75,31 +81,49 @@ fn some_room(rng: &mut Rng, len: usize) -> usize {
     }
 }
 
-/// Counts where the room stood to the part.
+/// Counts what a copy left of its destination.
 fn mark_room(tally: &mut Tally, code: u32, len: usize, room: usize) {
     match code {
-        0 if room == len && len > 0 => tally.mark("room exactly enough", 1),
-        0 if room > len => tally.mark("room longer: rest unchanged", 1),
-        100 if room + 1 == len => tally.mark("room one byte short", 1),
-        100 => {}
-        0 => {}
+        GUC_OK if room > len => tally.mark("room longer: rest unchanged", 1),
+        GUC_OK | GUC_NO_ROOM => {}
         _ => tally.mark("refused copy: destination unchanged", 1),
     }
 }
 
-/// A copy of a part that the model places at `part`.
+/// A call that copies a part: where the model places it in the blob, and where
+/// the blob stands.
+struct Copying<'a> {
+    fun: Fun,
+    blob: &'a [u8],
+    part: Part,
+    stands: &'a Stands,
+}
+
+/// A number, or that the image was truncated.
+fn shown(code: u32, truncated: u32) -> u32 {
+    if truncated == 1 {
+        TRUNCATED
+    } else {
+        code
+    }
+}
+
+/// Makes a copy, with some room.
 fn check_copy(
     rng: &mut Rng,
     tally: &mut Tally,
-    (fun, blob, part): (Fun, &[u8], Part),
+    of: Copying,
     copy: impl Fn(&mut [u8]) -> Copied,
 ) -> Outcome {
+    let Copying { fun, blob, part, stands } = of;
     let room = some_room(rng, part.len);
     let mut want = rng.bytes(room);
     let mut dst = bytes(rng, &want);
     let got = copy(dst.get_mut());
     let expected = match part {
-        Part { code: 0, truncated, len, .. } if len > room => Copied { code: 100, truncated, len },
+        Part { code: 0, truncated, len, .. } if len > room => {
+            Copied { code: GUC_NO_ROOM, truncated, len }
+        }
         Part { code: 0, truncated, start, len } => {
             want[..len].copy_from_slice(&blob[start..start + len]);
             Copied { code: 0, truncated, len }
@@ -108,10 +132,39 @@ fn check_copy(
     };
     same("copy", got, expected).map_err(|problem| format!("room {room}, {part:?}: {problem}"))?;
     same_lent("destination", &dst, &want)?;
-    tally.answer(fun, got.code);
+    tally.sides(fun, shown(got.code, got.truncated), stands)?;
+    tally.answer_at(fun, got.code, &of_room(part.len, room))?;
     tally.mark("call with a slice against a forbidden page", dst.paged() as u64);
     mark_room(tally, got.code, part.len, room);
     Ok(())
+}
+
+/// What the model says of an image, and where it stands.
+struct Told {
+    image: Image,
+    version: Version,
+    stands: Stands,
+}
+
+/// One component: its place and its copy. What isn't one of the four is refused
+/// before the blob is judged.
+fn check_component(
+    rng: &mut Rng,
+    tally: &mut Tally,
+    (family, blob): (&Family, &[u8]),
+    (told, which): (&Told, u32),
+) -> Outcome {
+    let [_, part_fun, copy_fun, _] = family.funs;
+    let none = Stands::default();
+    let stands = if which > GUC_PART_EXPONENT { &none } else { &told.stands };
+    let expected = expected_part(&told.image, which);
+    let part = (family.part)(blob, which);
+    same("part", part, expected)?;
+    tally.sides(part_fun, shown(part.code, part.truncated), stands)?;
+    tally.answer_at(part_fun, part.code, &of_which(which))?;
+    let copy = |dst: &mut [u8]| (family.copy)(blob, which, dst);
+    check_copy(rng, tally, Copying { fun: copy_fun, blob, part: expected, stands }, copy)?;
+    tally.sides(copy_fun, part.code, &of_which(which))
 }
 
 /// All four functions of a family on one blob.
@@ -119,58 +172,70 @@ fn check_family(
     rng: &mut Rng,
     tally: &mut Tally,
     (family, lent): (&Family, &Lent<u8>),
-    (image, version): (&Image, Version),
+    told: &Told,
 ) -> Outcome {
+    let Told { image, version, stands } = told;
     let blob = lent.get();
-    let [answer_fun, part_fun, copy_fun, version_fun] = family.funs;
+    let [answer_fun, .., version_fun] = family.funs;
     let answer = (family.answer)(blob);
     same("answer", answer, Css { code: image.code, truncated: image.truncated as u32 })?;
+    tally.sides(answer_fun, shown(answer.code, answer.truncated), stands)?;
     tally.answer(answer_fun, answer.code);
     let got = (family.version)(blob);
-    same("version", got, version)?;
-    tally.answer(version_fun, got.code);
-    let other = rng.pick(&[4, 5, 7, 255, 256, 1 << 16, 1 << 31, u32::MAX, u32::MAX - 3]);
+    same("version", got, *version)?;
+    tally.answer_at(version_fun, got.code, stands)?;
+    let other = rng.pick(&[4, 4, 5, 7, 255, 256, 1 << 16, 1 << 31, u32::MAX, u32::MAX - 3]);
     for which in [0, 1, 2, 3, other] {
-        let expected = expected_part(image, which);
-        let part = (family.part)(blob, which);
-        same("part", part, expected).map_err(|problem| format!("which {which}: {problem}"))?;
-        tally.answer(part_fun, part.code);
-        let copy = |dst: &mut [u8]| (family.copy)(blob, which, dst);
-        check_copy(rng, tally, (copy_fun, blob, expected), copy)?;
+        check_component(rng, tally, (family, blob), (told, which))
+            .map_err(|problem| format!("which {which}: {problem}"))?;
     }
     if image.code == 0 {
         tally.mark(if image.truncated { "image truncated" } else { "image full" }, 1);
     }
+    tally.input(stands);
     Ok(())
 }
 
 /// The CSS functions on a blob.
 pub fn check_css_blob(rng: &mut Rng, tally: &mut Tally, blob: &[u8]) -> Outcome {
     let lent = bytes(rng, blob);
-    let told = (&css::locate(blob), expected_version(css::version(blob)));
-    check_family(rng, tally, (&CSS, &lent), told).map_err(|problem| format!("CSS: {problem}"))?;
+    let version = expected_version(css::version(blob));
+    let told = Told { image: css::locate(blob), version, stands: of_image(blob) };
+    check_family(rng, tally, (&CSS, &lent), &told).map_err(|problem| format!("CSS: {problem}"))?;
     same_lent("blob", &lent, blob)
+}
+
+/// The functions that seek a name.
+fn check_seek(rng: &mut Rng, tally: &mut Tally, lent: &Lent<u8>, name: &[u8]) -> Outcome {
+    let (blob, lent_name) = (lent.get(), bytes(rng, name));
+    let (code, start, end) = cpd::seek(blob, name);
+    let expected = Part { code, truncated: 0, start, len: end - start };
+    let part = guc::cpd_part(blob, lent_name.get());
+    same("part", part, expected)?;
+    let (stands, _) = of_directory(blob, name, Set::NameBit);
+    tally.answer_at(Fun::CpdPart, code, &stands)?;
+    tally.input(&stands);
+    let empty_at_end = code == 0 && start == blob.len();
+    tally.mark("part of 0 bytes at the blob's end", empty_at_end as u64);
+    let copy = |dst: &mut [u8]| guc::cpd_copy(blob, lent_name.get(), dst);
+    let of = Copying { fun: Fun::CpdCopy, blob, part: expected, stands: &stands };
+    check_copy(rng, tally, of, copy)?;
+    same_lent("name", &lent_name, name)
 }
 
 /// The directory functions on a blob, seeking this name.
 pub fn check_directory(rng: &mut Rng, tally: &mut Tally, blob: &[u8], name: &[u8]) -> Outcome {
-    let (lent, lent_name) = (bytes(rng, blob), bytes(rng, name));
-    let (code, start, end) = cpd::seek(blob, name);
-    let expected = Part { code, truncated: 0, start, len: end - start };
-    let part = guc::cpd_part(lent.get(), lent_name.get());
-    let named = |problem: String| format!("CPD name {}: {problem}", name.escape_ascii());
-    same("part", part, expected).map_err(named)?;
-    tally.answer(Fun::CpdPart, code);
-    let empty_at_end = code == 0 && start == blob.len();
-    tally.mark("part of 0 bytes at the blob's end", empty_at_end as u64);
-    let copy = |dst: &mut [u8]| guc::cpd_copy(lent.get(), lent_name.get(), dst);
-    check_copy(rng, tally, (Fun::CpdCopy, blob, expected), copy).map_err(named)?;
+    let lent = bytes(rng, blob);
+    check_seek(rng, tally, &lent, name)
+        .map_err(|problem| format!("CPD name {}: {problem}", name.escape_ascii()))?;
     let manifest = guc::manifest_version(lent.get());
     same("manifest", manifest, expected_manifest(cpd::manifest_version(blob)))?;
-    tally.answer(Fun::ManifestVersion, manifest.code);
-    let told = (&cpd::huc_locate(blob), expected_version(cpd::huc_version(blob)));
-    check_family(rng, tally, (&HUC, &lent), told).map_err(|problem| format!("HuC: {problem}"))?;
-    same_lent("name", &lent_name, name)?;
+    let stands = of_manifest(blob);
+    tally.answer_at(Fun::ManifestVersion, manifest.code, &stands)?;
+    tally.input(&stands);
+    let version = expected_version(cpd::huc_version(blob));
+    let told = Told { image: cpd::huc_locate(blob), version, stands: of_huc(blob) };
+    check_family(rng, tally, (&HUC, &lent), &told).map_err(|problem| format!("HuC: {problem}"))?;
     same_lent("blob", &lent, blob)
 }
 

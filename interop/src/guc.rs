@@ -1,5 +1,5 @@
 //! A safe face of libguc.a: slices in, structs out. All unsafe code of this
-//! project is here and in the two files of `guc/`.
+//! project is here and in two files of `guc/`.
 //!
 //! Every call below is sound for the same reasons: the pointers come from live
 //! references, so they are non-null, aligned, as long as the counts say and
@@ -7,6 +7,7 @@
 
 #![allow(unsafe_code)]
 
+pub mod constants;
 pub mod pages;
 mod raw;
 

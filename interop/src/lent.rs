@@ -1,104 +1,187 @@
 //! Memory lent to the archive, a copy of the case's slice. Mostly it lies
-//! between guard values, at varying alignment: a write outside is seen, and so
-//! is code that counts on more than the element's own alignment. Now and then
-//! it lies against a page that may not be touched, where a read outside is
-//! seen as well.
+//! between guards, at varying alignment: a write outside is seen, and so is code
+//! that counts on more than the element's own alignment. Now and then it lies
+//! against a page that may not be touched, with guards on its other side; there
+//! a read outside is seen as well.
 
 use crate::guc::pages::Pages;
 use model::generate::Rng;
 
-/// A slice to lend.
+/// A slice to lend: `count` values after `front` guards, more guards after them.
 #[derive(Debug)]
 pub struct Lent<T> {
-    place: Place<T>,
+    all: Memory<T>,
+    front: usize,
+    count: usize,
+    start: u32,
 }
 
 #[derive(Debug)]
-enum Place<T> {
-    Guarded { all: Vec<T>, front: usize, count: usize, guard: T },
+enum Memory<T> {
+    Heap(Vec<T>),
     Paged(Pages<T>),
 }
 
-/// Guards after the slice; before it there are 1 to `FRONT`.
-const BACK: usize = 4;
-const FRONT: u64 = 16;
+/// Guards after the slice, enough for the widest store that begins within it;
+/// before it there are as many, and up to `SHIFT` more.
+const SIDE: usize = 16;
+const SHIFT: u64 = 15;
 /// One slice in so many lies against a page.
 const PAGED: u64 = 24;
 
-impl<T: Copy + PartialEq> Lent<T> {
-    pub fn new(rng: &mut Rng, contents: &[T], guard: T) -> Lent<T> {
+/// Values that guards take: another at each place, from a start that is another
+/// for each slice, so that a neighbour's value copied or shifted here is seen.
+pub trait Guard: Copy + PartialEq {
+    fn guard(start: u32, place: usize) -> Self;
+}
+
+impl Guard for u32 {
+    fn guard(start: u32, place: usize) -> u32 {
+        start.wrapping_add((place as u32).wrapping_mul(0x9E37_79B1))
+    }
+}
+
+impl Guard for u8 {
+    fn guard(start: u32, place: usize) -> u8 {
+        (start as u8).wrapping_add((place as u8).wrapping_mul(0x9D))
+    }
+}
+
+/// The guards of these places.
+fn guards<T: Guard>(start: u32, places: std::ops::Range<usize>) -> impl Iterator<Item = T> {
+    places.map(move |place| T::guard(start, place))
+}
+
+/// The slice with so many guards before and after it, and where those start.
+fn between_guards<T: Guard>(
+    rng: &mut Rng,
+    contents: &[T],
+    front: usize,
+    behind: usize,
+) -> (Vec<T>, u32) {
+    let (start, back) = (rng.word(), front + contents.len());
+    let mut all = Vec::with_capacity(back + behind);
+    all.extend(guards::<T>(start, 0..front));
+    all.extend_from_slice(contents);
+    all.extend(guards::<T>(start, back..back + behind));
+    (all, start)
+}
+
+impl<T: Guard> Lent<T> {
+    pub fn new(rng: &mut Rng, contents: &[T]) -> Lent<T> {
         if rng.chance(1, PAGED) {
             let at_end = rng.chance(3, 4);
-            if let Some(pages) = Pages::new(contents, at_end) {
-                return Lent { place: Place::Paged(pages) };
+            let (front, back) = if at_end { (SIDE, 0) } else { (0, SIDE) };
+            let (all, start) = between_guards(rng, contents, front, back);
+            if let Some(pages) = Pages::new(&all, at_end) {
+                return Lent { all: Memory::Paged(pages), front, count: contents.len(), start };
             }
         }
-        let front = rng.between(1, FRONT) as usize;
-        let mut all = Vec::with_capacity(front + contents.len() + BACK);
-        all.resize(front, guard);
-        all.extend_from_slice(contents);
-        all.resize(front + contents.len() + BACK, guard);
-        Lent { place: Place::Guarded { all, front, count: contents.len(), guard } }
+        let front = SIDE + rng.between(0, SHIFT) as usize;
+        let (all, start) = between_guards(rng, contents, front, SIDE);
+        Lent { all: Memory::Heap(all), front, count: contents.len(), start }
+    }
+
+    fn all(&self) -> &[T] {
+        match &self.all {
+            Memory::Heap(all) => all,
+            Memory::Paged(pages) => pages.get(),
+        }
+    }
+
+    fn all_mut(&mut self) -> &mut [T] {
+        match &mut self.all {
+            Memory::Heap(all) => all,
+            Memory::Paged(pages) => pages.get_mut(),
+        }
     }
 
     pub fn get(&self) -> &[T] {
-        match &self.place {
-            Place::Guarded { all, front, count, .. } => &all[*front..*front + *count],
-            Place::Paged(pages) => pages.get(),
-        }
+        &self.all()[self.front..self.front + self.count]
     }
 
     pub fn get_mut(&mut self) -> &mut [T] {
-        match &mut self.place {
-            Place::Guarded { all, front, count, .. } => &mut all[*front..*front + *count],
-            Place::Paged(pages) => pages.get_mut(),
-        }
+        let (from, to) = (self.front, self.front + self.count);
+        &mut self.all_mut()[from..to]
     }
 
-    /// Whether it lies against such a page.
+    /// Whether it lies against a page that may not be touched.
     pub fn paged(&self) -> bool {
-        matches!(self.place, Place::Paged(_))
+        matches!(self.all, Memory::Paged(_))
     }
 
     /// Whether the guards still stand.
     pub fn intact(&self) -> bool {
-        let Place::Guarded { all, front, count, guard } = &self.place else {
-            return true;
-        };
-        let (before, rest) = all.split_at(*front);
-        before.iter().chain(&rest[*count..]).all(|value| value == guard)
+        let (all, back) = (self.all(), self.front + self.count);
+        all[..self.front].iter().copied().eq(guards::<T>(self.start, 0..self.front))
+            && all[back..].iter().copied().eq(guards::<T>(self.start, back..all.len()))
     }
 }
 
 /// Dwords to lend.
 pub fn words(rng: &mut Rng, contents: &[u32]) -> Lent<u32> {
-    let guard = rng.word();
-    Lent::new(rng, contents, guard)
+    Lent::new(rng, contents)
 }
 
 /// Bytes to lend.
 pub fn bytes(rng: &mut Rng, contents: &[u8]) -> Lent<u8> {
-    let guard = rng.word() as u8;
-    Lent::new(rng, contents, guard)
+    Lent::new(rng, contents)
 }
 
 #[cfg(test)]
 mod tests {
     use super::*;
 
+    /// Tries a write on slices with guards on both sides: whether each is seen.
+    fn seen(write: impl Fn(&mut [u32], usize, usize)) -> bool {
+        let mut rng = Rng::new(4);
+        let mut tried = (0..200).map(|_| {
+            let contents = rng.words(3);
+            let mut lent = words(&mut rng, &contents);
+            let (front, back) = (lent.front, lent.front + lent.count);
+            let both = !lent.paged();
+            if both {
+                write(lent.all_mut(), front, back);
+            }
+            !both || !lent.intact()
+        });
+        tried.all(|seen| seen)
+    }
+
     /// A changed guard on either side is seen.
     #[test]
     fn a_write_outside_is_seen() {
-        let mut rng = Rng::new(4);
-        let mut tried = 0;
-        while tried < 20 {
-            let mut lent = words(&mut rng, &[5; 3]);
-            if let Place::Guarded { all, front, count, .. } = &mut lent.place {
-                let at = rng.pick(&[0, *front - 1, *front + *count, all.len() - 1]);
-                all[at] ^= 1;
-                assert!(!lent.intact());
-                tried += 1;
-            }
+        assert!(!seen(|_, _, _| {}));
+        assert!(seen(|all, _, _| all[0] ^= 1));
+        assert!(seen(|all, front, _| all[front - 1] ^= 1 << 31));
+        assert!(seen(|all, _, back| all[back] ^= 1));
+        assert!(seen(|all, _, back| all[back + SIDE - 1] = 0));
+    }
+
+    /// So is a guard that took its neighbour's value, and all of them shifted.
+    #[test]
+    fn a_neighbours_value_is_seen() {
+        assert!(seen(|all, front, _| all[front - 1] = all[front - 2]));
+        assert!(seen(|all, front, _| all[front - 1] = all[front]));
+        assert!(seen(|all, _, back| all[back] = all[back + 1]));
+        assert!(seen(|all, _, back| all.copy_within(back..back + 3, back + 1)));
+        let bytes: Vec<u8> = guards(7, 0..256).collect();
+        assert!((0..256).all(|at| !bytes[..at].contains(&bytes[at])));
+    }
+
+    /// The side of a slice that lies against no page has guards too.
+    #[test]
+    fn a_write_on_the_open_side_is_seen() {
+        let mut rng = Rng::new(6);
+        let lents = (0..400).map(|_| words(&mut rng, &[5; 3]));
+        let mut paged: Vec<Lent<u32>> = lents.filter(|lent| lent.paged()).collect();
+        assert!(paged.iter().any(|lent| lent.front == 0));
+        assert!(paged.iter().any(|lent| lent.front == SIDE));
+        for lent in &mut paged {
+            let at = if lent.front == 0 { lent.count } else { lent.front - 1 };
+            assert!(lent.intact());
+            lent.all_mut()[at] ^= 1;
+            assert!(!lent.intact());
         }
     }
 }

@@ -7,12 +7,16 @@
 pub mod archive;
 pub mod big;
 pub mod calls;
+pub mod edges;
 pub mod firmware;
+pub mod functions;
 pub mod guc;
 pub mod lent;
 pub mod lists;
 pub mod messages;
 pub mod runner;
 pub mod same;
+pub mod sets;
+pub mod sweeps;
 pub mod table;
 pub mod tally;

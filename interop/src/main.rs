@@ -3,9 +3,13 @@
 //!   interop one GROUP CASE SEED       one case again
 //!   interop trace [cases] [seed]      on one thread, each case named before it
 //!                                     runs, to find one that kills the program
+//!   interop constants                 NAME=value of all that the wrapper has
+//!   interop functions                 the functions that are called
 
+use interop::functions::FUNCTIONS;
+use interop::guc::constants::CONSTANTS;
 use interop::runner::{run_group, run_one, Difference, GROUPS};
-use interop::table::{by_function, by_mark, by_number, grouped};
+use interop::table::{by_boundary, by_function, by_mark, by_number, by_set, grouped};
 use interop::tally::Tally;
 use std::process::ExitCode;
 use std::time::Instant;
@@ -17,8 +21,9 @@ const LEAST: u64 = 50_000;
 
 /// A number of the command line, underscores and commas allowed.
 fn parse(args: &[String], at: usize, otherwise: u64) -> Result<u64, String> {
-    let Some(text) = args.get(at) else {
-        return Ok(otherwise);
+    let text = match args.get(at) {
+        Some(text) => text,
+        None => return Ok(otherwise),
     };
     let plain = text.replace(['_', ','], "");
     let parsed = match plain.strip_prefix("0x") {
@@ -50,7 +55,8 @@ fn all(cases: u64, seed: u64) -> ExitCode {
         tally.add(&part);
         ran += count;
     }
-    println!("\n{}\n{}\n{}", by_function(&tally), by_mark(&tally), by_number(&tally));
+    println!("\n{}\n{}", by_function(&tally), by_mark(&tally));
+    println!("{}\n{}\n{}", by_boundary(&tally), by_set(&tally), by_number(&tally));
     let missing = if differences == 0 { tally.missing() } else { Vec::new() };
     missing.iter().for_each(|line| println!("NOT REACHED: {line}"));
     let time = begin.elapsed().as_secs_f64();
@@ -63,9 +69,12 @@ fn all(cases: u64, seed: u64) -> ExitCode {
 }
 
 fn one(name: &str, case: u64, seed: u64) -> ExitCode {
-    let Some(group) = GROUPS.iter().position(|group| group.name == name) else {
-        println!("no group {name}");
-        return ExitCode::FAILURE;
+    let group = match GROUPS.iter().position(|group| group.name == name) {
+        Some(group) => group,
+        None => {
+            println!("no group {name}");
+            return ExitCode::FAILURE;
+        }
     };
     match run_one(seed, group, case, &mut Tally::default()) {
         Ok(()) => {
@@ -98,6 +107,14 @@ fn chosen(args: &[String]) -> Result<ExitCode, String> {
         Some("one") => {
             let name = args.get(1).ok_or("one GROUP CASE SEED")?;
             Ok(one(name, parse(args, 2, 0)?, parse(args, 3, SEED)?))
+        }
+        Some("constants") => {
+            CONSTANTS.iter().for_each(|(name, value)| println!("{name}={value}"));
+            Ok(ExitCode::SUCCESS)
+        }
+        Some("functions") => {
+            FUNCTIONS.iter().for_each(|(_, name, _)| println!("{name}"));
+            Ok(ExitCode::SUCCESS)
         }
         Some("trace") => Ok(trace(parse(args, 1, CASES)?.max(LEAST), parse(args, 2, SEED)?)),
         _ => Ok(all(parse(args, 0, CASES)?.max(LEAST), parse(args, 1, SEED)?)),

@@ -1,9 +1,12 @@
 //! Packing and unpacking, and that both ways agree.
 
+use crate::edges::messages::{of_fields, of_message};
+use crate::functions::Fun;
+use crate::guc::constants::*;
 use crate::guc::{self, Packed, Unpacked};
 use crate::lent::words;
 use crate::same::{same, same_lent, Outcome};
-use crate::tally::{Fun, Tally};
+use crate::tally::Tally;
 use model::generate::{fields, message, Rng};
 use model::message::{has_two_fields, known, pack, unpack, Decoded};
 
@@ -17,10 +20,10 @@ fn in_order(f: &Decoded) -> [u32; 6] {
 fn expected_pack(f: &Decoded) -> Packed {
     let refused = |code| Packed { code, header: 0, word: 0 };
     if !known(f.kind) {
-        return refused(101);
+        return refused(GUC_NO_SUCH);
     }
     if !has_two_fields(f.kind) && f.second != 0 {
-        return refused(14);
+        return refused(GUC_BAD_FIELD);
     }
     match pack(f) {
         Ok((header, word)) => Packed { code: 0, header, word },
@@ -56,16 +59,23 @@ fn check_unpack(rng: &mut Rng, tally: &mut Tally, dwords: &[u32]) -> Result<Unpa
     let got = guc::unpack(lent.get());
     same("unpack", got, expected_unpack(dwords))?;
     same_lent("message", &lent, dwords)?;
-    tally.answer(Fun::Unpack, got.code);
+    let (stands, _) = of_message(dwords);
+    tally.answer_at(Fun::Unpack, got.code, &stands)?;
+    tally.input(&stands);
     Ok(got)
 }
 
-/// Packs fields; what was packed is unpacked as the front of a message.
+/// Fields packed; what was packed is unpacked as the front of a message.
 pub fn check_packing(rng: &mut Rng, tally: &mut Tally) -> Outcome {
     let f = some_fields(rng);
+    check_fields(rng, tally, f)
+}
+
+/// These fields, packed, and unpacked again.
+pub fn check_fields(rng: &mut Rng, tally: &mut Tally, f: Decoded) -> Outcome {
     let got = guc::pack(in_order(&f));
     same("pack", got, expected_pack(&f)).map_err(|problem| format!("{f:?}: {problem}"))?;
-    tally.answer(Fun::Pack, got.code);
+    tally.answer_at(Fun::Pack, got.code, &of_fields(in_order(&f)))?;
     if got.code == 0 {
         let mut dwords = vec![got.header, got.word];
         dwords.extend(rng.words(f.num_dwords as usize - 1));
@@ -80,7 +90,12 @@ pub fn check_packing(rng: &mut Rng, tally: &mut Tally) -> Outcome {
 /// Unpacks a message; what was unpacked packs to the same two dwords.
 pub fn check_unpacking(rng: &mut Rng, tally: &mut Tally) -> Outcome {
     let dwords = message(rng);
-    let u = check_unpack(rng, tally, &dwords)?;
+    check_message(rng, tally, &dwords)
+}
+
+/// This message, unpacked, and packed again.
+pub fn check_message(rng: &mut Rng, tally: &mut Tally, dwords: &[u32]) -> Outcome {
+    let u = check_unpack(rng, tally, dwords)?;
     if u.code == 0 {
         let again = guc::pack([u.origin, u.fence, u.num_dwords, u.kind, u.first, u.second]);
         let model = Packed { code: 0, header: dwords[0], word: dwords[1] };

@@ -4,7 +4,7 @@
 
 use crate::same::Outcome;
 use crate::tally::Tally;
-use crate::{big, calls, firmware, lists, messages};
+use crate::{big, calls, firmware, lists, messages, sweeps};
 use model::generate::Rng;
 use std::panic::{catch_unwind, AssertUnwindSafe};
 use std::sync::atomic::{AtomicBool, AtomicU64, Ordering};
@@ -21,7 +21,7 @@ pub struct Group {
     pub about: &'static str,
 }
 
-pub const GROUPS: [Group; 8] = [
+pub const GROUPS: [Group; 10] = [
     group("calls", 235_000, calls::check, "one channel call"),
     group("lists", 10_000, lists::check, "a list of operations, both sides"),
     group("tampered", 10_000, lists::check_tampered, "a list with foreign writes"),
@@ -30,6 +30,8 @@ pub const GROUPS: [Group; 8] = [
     group("css", 200_000, firmware::check_css, "an image, all its functions"),
     group("cpd", 179_850, firmware::check_cpd, "a directory, all its functions"),
     group("big", 150, big::check, "a blob up to 19 MiB"),
+    group("channels", 100, sweeps::check_channel, "all sweeps of the channel"),
+    group("firmwares", 100, sweeps::check_firmware, "all sweeps of firmware"),
 ];
 
 const fn group(name: &'static str, share: u64, check: Check, about: &'static str) -> Group {
@@ -37,7 +39,8 @@ const fn group(name: &'static str, share: u64, check: Check, about: &'static str
 }
 
 impl Group {
-    /// Its cases in a run of this many; of the large blobs at least a few.
+    /// Its cases in a run of this many; of the large blobs and the sweeps at
+    /// least a few.
     pub fn cases(&self, total: u64) -> u64 {
         let share = total as u128 * self.share as u128 / 1_000_000;
         (share as u64).max(40)

@@ -1,6 +1,6 @@
 //! Comparisons that say what differs and where.
 
-use crate::lent::Lent;
+use crate::lent::{Guard, Lent};
 use std::fmt::Debug;
 
 /// What a case ends with: nothing, or the first difference in words.
@@ -28,11 +28,7 @@ pub fn same_slice<T: PartialEq + Debug>(what: &str, archive: &[T], model: &[T]) 
 }
 
 /// A lent slice afterwards, and the guards around it.
-pub fn same_lent<T: Copy + PartialEq + Debug>(
-    what: &str,
-    archive: &Lent<T>,
-    model: &[T],
-) -> Outcome {
+pub fn same_lent<T: Guard + Debug>(what: &str, archive: &Lent<T>, model: &[T]) -> Outcome {
     if !archive.intact() {
         return Err(format!("{what}: written outside the lent slice"));
     }

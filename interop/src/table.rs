@@ -1,6 +1,9 @@
 //! The report at the end: cases, seed, and the count for each number.
 
-use crate::tally::{number, Tally, FUNCTIONS, MARKS, NUMBERS};
+use crate::edges::{BOUNDARIES, TRUNCATED};
+use crate::functions::{number, FUNCTIONS, NUMBERS};
+use crate::sets::SETS;
+use crate::tally::{Tally, MARKS};
 use std::fmt::Write;
 
 /// What each number means, in a few words.
@@ -36,7 +39,7 @@ pub fn grouped(value: u64) -> String {
     let digits = value.to_string();
     let mut text = String::new();
     for (index, digit) in digits.chars().enumerate() {
-        if index > 0 && (digits.len() - index).is_multiple_of(3) {
+        if index > 0 && (digits.len() - index) % 3 == 0 {
             text.push(',');
         }
         text.push(digit);
@@ -73,6 +76,35 @@ pub fn by_mark(tally: &Tally) -> String {
     for name in MARKS {
         let count = grouped(tally.marked(name));
         writeln!(text, "{count:>12}   {name}").expect("a string takes it");
+    }
+    text
+}
+
+/// Counts of both sides of the boundaries, over all functions that have them.
+pub fn by_boundary(tally: &Tally) -> String {
+    let mut text =
+        String::from("boundary                          side [refused by] x times, of functions\n");
+    for row in &BOUNDARIES {
+        let counts = tally.both_sides(row.edge);
+        let said = |side: usize| match row.number {
+            _ if side != row.refused => String::new(),
+            TRUNCATED => " [truncated]".to_string(),
+            number => format!(" [{number}]"),
+        };
+        let each = [0, 1]
+            .map(|side| format!("{}{} x {}", row.sides[side], said(side), grouped(counts[side])));
+        let line = format!("{:<34}{}, of {}", row.name, each.join(", "), row.funs.len());
+        writeln!(text, "{line}").expect("a string takes it");
+    }
+    text
+}
+
+/// Counts of the members of sets.
+pub fn by_set(tally: &Tally) -> String {
+    let mut text = String::from("members   each at least    set\n");
+    for (set, name, members) in SETS {
+        let least = grouped(tally.members.least(set));
+        writeln!(text, "{members:>7}   {least:>13}    {name}").expect("a string takes it");
     }
     text
 }

@@ -1,63 +1,13 @@
-//! Counts of what the cases reached: for each function each number, and marks
-//! for things the numbers don't show.
+//! Counts of what the cases reached: for each function each number and each
+//! side of its boundaries, members of sets, and marks for all else.
 
+use crate::edges::{Edge, Stands, BOUNDARIES};
+use crate::functions::{place, Fun, FUNCTIONS, NUMBERS};
+use crate::sets::Members;
 use std::collections::BTreeMap;
 
-/// The archive's functions.
-#[derive(Clone, Copy, Debug, PartialEq, Eq)]
-pub enum Fun {
-    Open,
-    SendLook,
-    SendStore,
-    SendPublish,
-    Send,
-    ReceiveLook,
-    ReceiveCopy,
-    ReceivePublish,
-    Receive,
-    Pack,
-    Unpack,
-    CssAnswer,
-    CssPart,
-    CssCopy,
-    CssVersion,
-    CpdPart,
-    CpdCopy,
-    ManifestVersion,
-    HucAnswer,
-    HucPart,
-    HucCopy,
-    HucVersion,
-}
-
-/// Each function with its name and the numbers it can answer.
-pub const FUNCTIONS: [(Fun, &str, &[u32]); 22] = [
-    (Fun::Open, "guc_open", &[0, 1, 2]),
-    (Fun::SendLook, "guc_send_look", &[0, 1, 2, 3, 4, 6, 7, 8, 10]),
-    (Fun::SendStore, "guc_send_store", &[0, 1, 2, 3, 12]),
-    (Fun::SendPublish, "guc_send_publish", &[0, 1, 2, 3, 12]),
-    (Fun::Send, "guc_send", &[0, 1, 2, 3, 4, 6, 7, 8, 10]),
-    (Fun::ReceiveLook, "guc_receive_look", &[0, 1, 2, 3, 6, 7, 8, 9, 11]),
-    (Fun::ReceiveCopy, "guc_receive_copy", &[0, 1, 2, 3, 12]),
-    (Fun::ReceivePublish, "guc_receive_publish", &[0, 1, 2, 3, 5, 12, 13]),
-    (Fun::Receive, "guc_receive", &[0, 1, 2, 3, 5, 6, 7, 8, 9, 11, 13]),
-    (Fun::Pack, "guc_pack", &[0, 14, 101]),
-    (Fun::Unpack, "guc_unpack", &[0, 4]),
-    (Fun::CssAnswer, "guc_css_answer", &[0, 15, 16, 17]),
-    (Fun::CssPart, "guc_css_part", &[0, 15, 16, 17, 101]),
-    (Fun::CssCopy, "guc_css_copy", &[0, 15, 16, 17, 100, 101]),
-    (Fun::CssVersion, "guc_css_version", &[0, 15, 16, 17]),
-    (Fun::CpdPart, "guc_cpd_part", &[0, 14, 15, 18, 19, 20, 21]),
-    (Fun::CpdCopy, "guc_cpd_copy", &[0, 14, 15, 18, 19, 20, 21, 100]),
-    (Fun::ManifestVersion, "guc_manifest_version", &[0, 15, 18, 19, 20, 21]),
-    (Fun::HucAnswer, "guc_huc_answer", &[0, 15, 16, 17, 18, 19, 20, 21]),
-    (Fun::HucPart, "guc_huc_part", &[0, 15, 16, 17, 18, 19, 20, 21, 101]),
-    (Fun::HucCopy, "guc_huc_copy", &[0, 15, 16, 17, 18, 19, 20, 21, 100, 101]),
-    (Fun::HucVersion, "guc_huc_version", &[0, 15, 16, 17, 18, 19, 20, 21]),
-];
-
 /// Things that must come up beside the numbers.
-pub const MARKS: [&str; 17] = [
+pub const MARKS: [&str; 28] = [
     "output longer than 256: rest unchanged",
     "message across the ring's end",
     "ring full after an operation",
@@ -68,45 +18,45 @@ pub const MARKS: [&str; 17] = [
     "unpacked, then packed",
     "image truncated",
     "image full",
-    "room exactly enough",
-    "room one byte short",
     "room longer: rest unchanged",
     "refused copy: destination unchanged",
     "part of 0 bytes at the blob's end",
     "part past 16 MiB",
     "call with a slice against a forbidden page",
+    "wrap at 32 + k",
+    "wrap at + m",
+    "wrap at + e",
+    "wrap of m + e alone",
+    "wrap twice",
+    "wrap at 4(s - h)",
+    "wrap at 4k",
+    "wrap at 128 + 4(s - h)",
+    "wrap at + 4k",
+    "wrap at 4s",
+    "wrap at 24n",
+    "wrap at H + 24n",
+    "wrap at offset + length",
 ];
 
-/// The numbers 0 to 21, 100 and 101, each with a place.
-pub const NUMBERS: usize = 24;
-
-/// The place of a number; none for a number that is no answer.
-pub fn place(code: u32) -> Option<usize> {
-    match code {
-        0..=21 => Some(code as usize),
-        100 | 101 => Some(code as usize - 78),
-        _ => None,
-    }
-}
-
-/// The number at a place.
-pub fn number(place: usize) -> u32 {
-    if place < 22 {
-        place as u32
-    } else {
-        place as u32 + 78
-    }
-}
+/// For each function the count of each side of a boundary.
+type Sides = [[u64; 2]; FUNCTIONS.len()];
 
 #[derive(Clone, Debug)]
 pub struct Tally {
     answers: [[u64; NUMBERS]; FUNCTIONS.len()],
+    edges: Vec<Sides>,
+    pub members: Members,
     marks: BTreeMap<&'static str, u64>,
 }
 
 impl Default for Tally {
     fn default() -> Tally {
-        Tally { answers: [[0; NUMBERS]; FUNCTIONS.len()], marks: BTreeMap::new() }
+        Tally {
+            answers: [[0; NUMBERS]; FUNCTIONS.len()],
+            edges: vec![[[0; 2]; FUNCTIONS.len()]; BOUNDARIES.len()],
+            members: Members::default(),
+            marks: BTreeMap::new(),
+        }
     }
 }
 
@@ -115,6 +65,36 @@ impl Tally {
     pub fn answer(&mut self, fun: Fun, code: u32) {
         let place = place(code).expect("the model answers only the known numbers");
         self.answers[fun as usize][place] += 1;
+    }
+
+    /// Counts an answer and the sides of boundaries at which its input stood.
+    /// The refused side, and it alone, must have been refused: so the two can't
+    /// be wrong together there.
+    pub fn answer_at(&mut self, fun: Fun, code: u32, stands: &Stands) -> Result<(), String> {
+        self.sides(fun, code, stands)?;
+        self.answer(fun, code);
+        Ok(())
+    }
+
+    /// Counts the sides alone; the number may be `TRUNCATED`.
+    pub fn sides(&mut self, fun: Fun, number: u32, stands: &Stands) -> Result<(), String> {
+        for (edge, side) in &stands.sides {
+            let row = &BOUNDARIES[*edge as usize];
+            if !row.funs.contains(&fun) {
+                continue;
+            }
+            if (number == row.number) != (*side == row.refused) {
+                return Err(format!("{}, {}: answer {number}", row.name, row.sides[*side]));
+            }
+            self.edges[*edge as usize][fun as usize][*side] += 1;
+        }
+        Ok(())
+    }
+
+    /// Counts the members and marks of an input.
+    pub fn input(&mut self, stands: &Stands) {
+        stands.members.iter().for_each(|(set, index)| self.members.count(*set, *index));
+        stands.marks.iter().for_each(|name| self.mark(name, 1));
     }
 
     pub fn mark(&mut self, name: &'static str, times: u64) {
@@ -126,6 +106,11 @@ impl Tally {
         for (mine, theirs) in self.answers.iter_mut().zip(&other.answers) {
             mine.iter_mut().zip(theirs).for_each(|(a, b)| *a += b);
         }
+        let (mine, theirs) = (self.edges.iter_mut().flatten(), other.edges.iter().flatten());
+        for (mine, theirs) in mine.zip(theirs) {
+            *mine = [mine[0] + theirs[0], mine[1] + theirs[1]];
+        }
+        self.members.add(&other.members);
         other.marks.iter().for_each(|(name, times)| self.mark(name, *times));
     }
 
@@ -142,16 +127,28 @@ impl Tally {
         self.answers[fun as usize].iter().sum()
     }
 
+    /// How often each side of a boundary came up, over all functions.
+    pub fn both_sides(&self, edge: Edge) -> [u64; 2] {
+        let rows = &self.edges[edge as usize];
+        [0, 1].map(|side| rows.iter().map(|row| row[side]).sum())
+    }
+
     pub fn marked(&self, name: &str) -> u64 {
         self.marks.get(name).copied().unwrap_or(0)
     }
 
     /// What should have come up and never did.
     pub fn missing(&self) -> Vec<String> {
-        let mut missing = Vec::new();
+        let mut missing = self.members.missing();
         for (fun, name, numbers) in FUNCTIONS {
             for code in numbers.iter().filter(|code| self.count(fun, **code) == 0) {
                 missing.push(format!("{name} never answered {code}"));
+            }
+            for row in BOUNDARIES.iter().filter(|row| row.funs.contains(&fun)) {
+                let counts = self.edges[row.edge as usize][fun as usize];
+                for side in (0..2).filter(|side| counts[*side] == 0) {
+                    missing.push(format!("{name}: {}, {}", row.name, row.sides[side]));
+                }
             }
         }
         for name in MARKS.iter().filter(|name| self.marked(name) == 0) {

@@ -1,16 +1,17 @@
 //! The comparison itself: a short run of every group, and that writes outside
 //! a lent slice and differing values are seen.
 
+use interop::functions::{number, place, FUNCTIONS, NUMBERS};
 use interop::lent::{bytes, words};
 use interop::runner::{run_group, run_one, GROUPS};
 use interop::same::{same, same_lent, same_slice};
-use interop::tally::{number, place, Tally, FUNCTIONS, NUMBERS};
+use interop::tally::Tally;
 use model::generate::Rng;
 
 #[test]
 fn every_group_for_a_moment() {
     for (index, group) in GROUPS.iter().enumerate() {
-        let cases = if group.name == "big" { 4 } else { 200 };
+        let cases = if group.share < 1000 { 2 } else { 200 };
         let (tally, differences) = run_group(3, index, cases, 1);
         assert!(differences.is_empty(), "seed 3: {differences:?}");
         let calls: u64 = FUNCTIONS.iter().map(|(fun, ..)| tally.calls(*fun)).sum();

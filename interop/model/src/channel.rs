@@ -63,7 +63,7 @@ impl Answer {
 
 /// "N a multiple of 1,024 from 1,024 to 16,384"
 pub fn allowed(n: usize) -> bool {
-    n.is_multiple_of(1024) && (1024..=16384).contains(&n)
+    n % 1024 == 0 && (1024..=16384).contains(&n)
 }
 
 /// "used = (TAIL - HEAD) mod N", asked only with both below N.

@@ -40,9 +40,7 @@ fn find_entry(blob: &[u8], name: &[u8]) -> Option<usize> {
     let mut padded = [0u8; 12];
     padded[..name.len()].copy_from_slice(name);
     let count = dword(blob, 4) as usize;
-    (0..count)
-        .map(|index| blob[10] as usize + 24 * index)
-        .find(|&at| blob[at..at + 12] == padded)
+    (0..count).map(|index| blob[10] as usize + 24 * index).find(|&at| blob[at..at + 12] == padded)
 }
 
 /// The number and the part's (start, end); (0, 0) on a refusal.
@@ -51,8 +49,9 @@ pub fn seek(blob: &[u8], name: &[u8]) -> (u32, usize, usize) {
     if code != 0 {
         return (code, 0, 0);
     }
-    let Some(at) = find_entry(blob, name) else {
-        return (20, 0, 0);
+    let at = match find_entry(blob, name) {
+        Some(at) => at,
+        None => return (20, 0, 0),
     };
     // "offset dword (bits 24:0 count), length dword"
     let start = dword(blob, at + 12) & 0x01FF_FFFF;

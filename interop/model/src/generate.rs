@@ -1,16 +1,26 @@
 //! Seeded inputs, arbitrary and near-valid, for every public function.
 //! One seed gives one and the same stream of inputs on every machine.
 
+mod calls;
 mod case;
 mod cpd;
 mod css;
+mod directories;
+mod fields;
 mod list;
 mod message;
 mod state;
+mod wraps;
 
+pub use calls::{every_descriptor, every_message_length, every_size, every_state};
 pub use case::{buffer_length, case, case_for, disallowed_length};
 pub use cpd::{cpd_case, CpdCase};
-pub use css::css_blob;
+pub use css::{css_blob, every_length, one_off, wrapping_images};
+pub use directories::{
+    directory_of, every_header_length, every_name_bit, every_name_length, every_part_length,
+    every_upper_bit, every_wrap,
+};
+pub use fields::{every_field, every_message};
 pub use list::{operations, output};
 pub use message::{fields, malformed, message, near_malformed, well_formed, well_formed_of};
 pub use state::{break_state, random_state, receiving, sending};

@@ -69,10 +69,7 @@ pub fn has_two_fields(kind: u32) -> bool {
 /// "Well formed: format 0, reserved 0, NUM_DWORDS 1 to 255, and a known HXG
 /// type in the second dword."
 pub fn well_formed(header: u32, word: u32) -> bool {
-    format(header) == 0
-        && reserved(header) == 0
-        && num_dwords(header) >= 1
-        && known(kind(word))
+    format(header) == 0 && reserved(header) == 0 && num_dwords(header) >= 1 && known(kind(word))
 }
 
 /// "A caller's message must also have exactly L dwords."
@@ -96,11 +93,8 @@ pub fn pack(fields: &Decoded) -> Result<(u32, u32), u32> {
     if !(header_fits && word_fits && body_fits) {
         return Err(TOO_WIDE);
     }
-    let body = if has_two_fields(fields.kind) {
-        fields.first << 16 | fields.second
-    } else {
-        fields.first
-    };
+    let body =
+        if has_two_fields(fields.kind) { fields.first << 16 | fields.second } else { fields.first };
     let header = fields.fence << 16 | fields.num_dwords;
     Ok((header, fields.origin << 31 | fields.kind << 28 | body))
 }

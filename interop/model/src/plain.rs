@@ -136,8 +136,9 @@ impl Plain {
     /// "Move: 3 if not mid-call, 12 if k = L. A send stores dword k at
     /// (P + k) mod N. k grows by 1."
     pub fn send_move(&mut self) -> u32 {
-        let Some((k, message)) = &mut self.sending else {
-            return 3;
+        let (k, message) = match &mut self.sending {
+            Some(call) => (&mut call.0, &call.1),
+            None => return 3,
         };
         if *k == message.len() {
             return 12;
@@ -150,8 +151,9 @@ impl Plain {
 
     /// A receive's move.
     pub fn receive_move(&mut self) -> u32 {
-        let Some((k, length)) = self.receiving() else {
-            return 3;
+        let (k, length) = match self.receiving() {
+            Some(call) => call,
+            None => return 3,
         };
         if k == length {
             return 12;
@@ -163,8 +165,9 @@ impl Plain {
     /// "Publish: 3 if not mid-call; [...] 12 if k is below L. Send: the message
     /// joins the queue, P grows by L."
     pub fn send_publish(&mut self) -> u32 {
-        let Some((k, message)) = &self.sending else {
-            return 3;
+        let (k, message) = match &self.sending {
+            Some((k, message)) => (k, message),
+            None => return 3,
         };
         if *k < message.len() {
             return 12;
@@ -178,8 +181,9 @@ impl Plain {
     /// "a receive 5 on a short output"; "Receive: the queue's first goes to
     /// the output's front, R grows by L." Answers the number and L.
     pub fn receive_publish(&mut self, output: &mut [u32]) -> (u32, u32) {
-        let Some((k, length)) = self.receiving() else {
-            return (3, 0);
+        let (k, length) = match self.receiving() {
+            Some(call) => call,
+            None => return (3, 0),
         };
         if output.len() < 256 {
             return (5, 0);

@@ -42,8 +42,7 @@ fn check_refusal(before: &Case, after: &Case, answer: &Answer) {
 
 /// What an accepted call may change.
 fn check_accepted(before: &Case, after: &Case, answer: &Answer) {
-    let changed: Vec<usize> =
-        (0..16).filter(|&at| before.desc[at] != after.desc[at]).collect();
+    let changed: Vec<usize> = (0..16).filter(|&at| before.desc[at] != after.desc[at]).collect();
     let stores = before.buf.iter().zip(&after.buf).filter(|(a, b)| a != b).count();
     let (places, most): (&[usize], usize) = match before.op {
         Op::SendMove => (&[], 1),

@@ -27,8 +27,8 @@ impl<T: Copy> Pages<T> {
     /// A copy of the slice, its end flush with the upper page or its start with
     /// the lower one. None if the system has no memory for it.
     pub fn new(contents: &[T], at_end: bool) -> Option<Pages<T>> {
-        let wanted = size_of_val(contents);
-        let inner = wanted.div_ceil(PAGE) * PAGE;
+        let wanted = std::mem::size_of_val(contents);
+        let inner = (wanted + PAGE - 1) / PAGE * PAGE;
         let bytes = inner + 2 * PAGE;
         // A mapping of `bytes`, of which the middle `inner` may be used.
         let base = unsafe { mmap(std::ptr::null_mut(), bytes, NONE, PRIVATE_ANONYMOUS, -1, 0) };
@@ -36,9 +36,10 @@ impl<T: Copy> Pages<T> {
             return None;
         }
         let skip = PAGE + if at_end { inner - wanted } else { 0 };
-        let first = base.wrapping_byte_add(skip).cast::<T>();
+        let first = base.cast::<u8>().wrapping_add(skip).cast::<T>();
+        let usable = base.cast::<u8>().wrapping_add(PAGE);
         let pages = Pages { base, bytes, first, count: contents.len() };
-        let opened = unsafe { mprotect(base.wrapping_byte_add(PAGE), inner, READ_WRITE) };
+        let opened = unsafe { mprotect(usable.cast(), inner, READ_WRITE) };
         if inner > 0 && opened != 0 {
             return None;
         }

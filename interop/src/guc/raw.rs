@@ -1,7 +1,9 @@
 //! The archive's functions and structs as include/guc.h declares them.
 
+use super::constants::GUC_STATE_WORDS;
+
 /// A side's state: n, own, len, moved, then the copy of 256 dwords.
-pub type Words = [u32; 260];
+pub type Words = [u32; GUC_STATE_WORDS as usize];
 
 #[repr(C)]
 #[derive(Clone, Copy, Debug, PartialEq, Eq)]

@@ -25,7 +25,7 @@ pub fn disallowed_length(rng: &mut Rng) -> usize {
 /// An offset below N, near the wrap more often.
 fn offset(rng: &mut Rng, n: usize) -> usize {
     match rng.below(5) {
-        0 => 0,
+        0 => rng.pick(&[0, 0, 1, n - 1]),
         1 | 2 => n - rng.between(1, 260.min(n as u64)) as usize,
         _ => rng.below(n as u64) as usize,
     }
@@ -52,7 +52,8 @@ fn ring_message(rng: &mut Rng) -> Vec<u32> {
     }
 }
 
-fn lay(buf: &mut [u32], at: usize, message: &[u32]) {
+/// Lays a message into the ring.
+pub(super) fn lay(buf: &mut [u32], at: usize, message: &[u32]) {
     let n = buf.len();
     for (k, dword) in message.iter().enumerate() {
         buf[(at + k) % n] = *dword;
@@ -70,8 +71,7 @@ fn descriptor(rng: &mut Rng, head: usize, tail: usize) -> Vec<u32> {
 
 /// A call in which nothing is broken but what chance brings: a ring too full
 /// or too empty, a malformed message at HEAD, a call not or already complete.
-fn sound(rng: &mut Rng, op: Op) -> Case {
-    let n = buffer_length(rng);
+pub(super) fn sound(rng: &mut Rng, op: Op, n: usize) -> Case {
     let mut buf = if rng.chance(1, 8) { vec![0; n] } else { rng.words(n) };
     let msg = well_formed(rng);
     let mut pending = ring_message(rng);
@@ -110,7 +110,8 @@ fn break_descriptor(rng: &mut Rng, case: &mut Case) {
     let n = case.buf.len().max(1) as u32;
     let side = rng.pick(&[HEAD, TAIL]);
     match rng.below(9) {
-        0 | 1 => case.desc[STATUS] = rng.pick(&[1, 2, 4, 8, 3, 16, 1 << 31, u32::MAX]),
+        0 => case.desc[STATUS] = rng.pick(&[1, 2, 4, 8, 3, 16, 1 << 31, u32::MAX]),
+        1 => case.desc[STATUS] = 1 << rng.below(32),
         2 | 8 => case.desc[side] = rng.pick(&[n, n.wrapping_add(1), 2 * n, u32::MAX, 1 << 31]),
         3 => {
             // At least N on both, or agreeing modulo N, or agreeing with own.
@@ -121,7 +122,7 @@ fn break_descriptor(rng: &mut Rng, case: &mut Case) {
         }
         4 => case.desc[side] = (case.desc[side].wrapping_add(1)) % n,
         5 => case.desc[side] = rng.below(n as u64) as u32,
-        6 => case.state.own = (case.state.own.wrapping_add(n - 1)) % n,
+        6 => case.state.own = case.state.own.wrapping_add(rng.pick(&[1, n - 1])) % n,
         _ => case.desc[HEAD] = case.desc[TAIL],
     }
 }
@@ -158,7 +159,8 @@ fn break_one(rng: &mut Rng, case: &mut Case) {
 
 /// A case for this function.
 pub fn case_for(rng: &mut Rng, op: Op) -> Case {
-    let mut case = sound(rng, op);
+    let n = buffer_length(rng);
+    let mut case = sound(rng, op, n);
     let breaks = rng.pick(&[0, 0, 0, 0, 1, 1, 1, 1, 2, 3]);
     for _ in 0..breaks {
         break_one(rng, &mut case);

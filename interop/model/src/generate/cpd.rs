@@ -23,15 +23,21 @@ const POOL: [&[u8]; 9] = [
     b"a",
 ];
 
-struct Entry {
-    name: [u8; 12],
-    offset: u32,
-    length: u32,
-    contents: Vec<u8>,
+pub(super) struct Entry {
+    pub name: [u8; 12],
+    pub offset: u32,
+    pub length: u32,
+    pub contents: Vec<u8>,
+}
+
+/// Flips one bit of one byte.
+fn flip_one(rng: &mut Rng, bytes: &mut [u8]) {
+    let at = rng.below(bytes.len() as u64) as usize;
+    bytes[at] ^= 1 << rng.below(8);
 }
 
 /// An entry's name: the two that matter more often, sometimes with a byte
-/// after its zeros, which is then another name.
+/// after its zeros or with one bit changed, which is then another name.
 fn entry_name(rng: &mut Rng) -> [u8; 12] {
     let from = if rng.chance(1, 2) { rng.pick(&POOL[..2]) } else { rng.pick(&POOL) };
     let mut name = [0; 12];
@@ -39,11 +45,14 @@ fn entry_name(rng: &mut Rng) -> [u8; 12] {
     if rng.chance(1, 10) && from.len() < 11 {
         name[rng.between(from.len() as u64, 11) as usize] = rng.between(1, 255) as u8;
     }
+    if rng.chance(1, 8) {
+        flip_one(rng, &mut name);
+    }
     name
 }
 
 /// What an entry of this name holds, if it holds it properly.
-fn contents(rng: &mut Rng, name: &[u8; 12]) -> Vec<u8> {
+pub(super) fn contents(rng: &mut Rng, name: &[u8; 12]) -> Vec<u8> {
     let count = match &name[..6] {
         b"huc_fw" => return css_blob(rng),
         b"HUCP.m" => rng.pick(&[43usize, 44, 44, 45, 0, 36, 100]),
@@ -52,17 +61,16 @@ fn contents(rng: &mut Rng, name: &[u8; 12]) -> Vec<u8> {
     rng.bytes(count)
 }
 
-/// Entries and their parts, laid one after the other from `at` on.
-fn entries(rng: &mut Rng, count: usize, mut at: usize) -> Vec<Entry> {
-    (0..count)
-        .map(|_| {
-            let name = entry_name(rng);
-            let contents = contents(rng, &name);
-            let entry = Entry { name, offset: at as u32, length: contents.len() as u32, contents };
-            at += entry.contents.len();
-            entry
-        })
-        .collect()
+/// Entries of these names and contents behind a header of this length, their
+/// parts one after the other behind them.
+pub(super) fn laid(header: u8, parts: Vec<([u8; 12], Vec<u8>)>) -> Vec<Entry> {
+    let mut at = header as usize + 24 * parts.len();
+    let mut lay = |(name, contents): ([u8; 12], Vec<u8>)| {
+        let entry = Entry { name, offset: at as u32, length: contents.len() as u32, contents };
+        at += entry.contents.len();
+        entry
+    };
+    parts.into_iter().map(&mut lay).collect()
 }
 
 /// Moves an entry's part to the blob's end or beyond, or sets the offset's
@@ -84,7 +92,14 @@ fn tweak(rng: &mut Rng, entry: &mut Entry, end: u32) {
     }
 }
 
-fn render(rng: &mut Rng, header: u8, written: u32, list: &[Entry], end: usize) -> Vec<u8> {
+/// A directory of these entries that says it has `written`, of `end` bytes.
+pub(super) fn render(
+    rng: &mut Rng,
+    header: u8,
+    written: u32,
+    list: &[Entry],
+    end: usize,
+) -> Vec<u8> {
     let mut blob = rng.bytes(header.max(20) as usize);
     blob[..4].copy_from_slice(&[0x24, 0x43, 0x50, 0x44]);
     blob[4..8].copy_from_slice(&written.to_le_bytes());
@@ -108,8 +123,7 @@ fn render(rng: &mut Rng, header: u8, written: u32, list: &[Entry], end: usize) -
 fn break_blob(rng: &mut Rng, blob: &mut Vec<u8>, entries_end: usize) {
     match rng.below(8) {
         0 | 1 => {
-            let at = rng.below(4) as usize;
-            blob[at] ^= 1 << rng.below(8);
+            flip_one(rng, &mut blob[..4]);
         }
         2 => blob[10] = rng.pick(&[19, 18, 0, 20, 21, 24, 44, 255]),
         3 => blob.truncate(rng.pick(&[0, 1, 3, 4, 8, 11, 18, 19, 20, 21])),
@@ -141,6 +155,7 @@ fn name(rng: &mut Rng, list: &[Entry]) -> Vec<u8> {
             let count = rng.below(16) as usize;
             name = rng.bytes(count);
         }
+        8..=10 if !name.is_empty() => flip_one(rng, &mut name),
         _ => {}
     }
     name
@@ -150,12 +165,17 @@ fn name(rng: &mut Rng, list: &[Entry]) -> Vec<u8> {
 pub fn cpd_case(rng: &mut Rng) -> CpdCase {
     let header = match rng.below(8) {
         0 => rng.pick(&[19, 19, 0, 255, 48]),
-        1 | 2 => rng.between(21, 24) as u8,
+        1 => rng.between(21, 24) as u8,
+        2 => rng.word() as u8,
         _ => 20,
     };
     let count = rng.pick(&[0usize, 1, 1, 2, 2, 2, 3, 3, 5]);
     let entries_end = header as usize + 24 * count;
-    let mut list = entries(rng, count, entries_end);
+    let parts = (0..count).map(|_| {
+        let name = entry_name(rng);
+        (name, contents(rng, &name))
+    });
+    let mut list = laid(header, parts.collect());
     let slack = rng.pick(&[0usize, 0, 0, 1, 24, 40]);
     let end = list.last().map_or(entries_end, |last| last.offset as usize + last.contents.len());
     for entry in &mut list {

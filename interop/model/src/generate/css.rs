@@ -1,21 +1,22 @@
 //! CSS blobs, near-valid in every way: sizes that agree, that are one off,
 //! that agree only with wrap, and blobs cut at each boundary.
 
+use super::wraps::{wrapping, KINDS};
 use super::Rng;
 
 /// Sizes in dwords and the blob's length in bytes.
 #[derive(Clone, Copy, Debug)]
-struct Sizes {
-    h: u64,
-    s: u64,
-    k: u64,
-    m: u64,
-    e: u64,
-    bytes: u64,
+pub(super) struct Sizes {
+    pub h: u64,
+    pub s: u64,
+    pub k: u64,
+    pub m: u64,
+    pub e: u64,
+    pub bytes: u64,
 }
 
 /// Sizes that agree, for this much uCode, with a full blob.
-fn agreeing(u: u64, k: u64, m: u64, e: u64) -> Sizes {
+pub(super) fn agreeing(u: u64, k: u64, m: u64, e: u64) -> Sizes {
     let h = 32 + k + m + e;
     let s = h + u;
     Sizes { h, s, k, m, e, bytes: 4 * s }
@@ -42,33 +43,51 @@ fn cut(rng: &mut Rng, sizes: &mut Sizes) {
     sizes.bytes = (at + rng.pick(&[0, 1, 2, 3, 4])).saturating_sub(rng.pick(&[0, 1, 2, 4]));
 }
 
-/// Sizes with huge parts, chosen so that sums taken with wrap look small.
-fn huge(rng: &mut Rng) -> Sizes {
+/// Sizes with huge parts of this kind; the blob has about what small ones need.
+fn huge(rng: &mut Rng, kind: u64) -> Sizes {
     let base = small(rng);
-    let u = base.s - base.h;
-    let (k, m, e) = (base.k, base.m, base.e);
-    let present = 128 + 4 * u + 4 * k;
-    let mut sizes = match rng.below(6) {
-        // m + e wrap: h agrees modulo 2^32 only.
-        0 => {
-            let m = (1 << 32) - 1 - rng.below(40);
-            let e = rng.between((1 << 32) - m, 100);
-            let h = (32 + k + m + e) % (1 << 32);
-            Sizes { h, s: h + u, k, m, e, bytes: 0 }
-        }
-        // A huge modulus or exponent that agrees: a truncated image.
-        1 => agreeing(u, k, 0xFFFF_FF00 - 4 * rng.below(16), 0),
-        2 => agreeing(u, k, 1 + rng.below(2), 0xFFFF_FF00 - rng.below(64)),
-        // 4s with wrap is small: truncated all the same.
-        3 => agreeing(u, k, (1 << 30) - 32 - k - e - u + rng.below(20), e),
-        // 4(s - h) with wrap is small: 17.
-        4 => agreeing((1 << 30) + u, k, m, e),
-        // 4k with wrap is small: 17.
-        _ => agreeing(u, (1 << 30) + k, m, e),
-    };
+    let mut sizes = wrapping(rng, &base, kind);
+    let present = 128 + 4 * (base.s - base.h) + 4 * base.k;
     let more = rng.pick(&[0, 0, 1, 64, 300]);
     sizes.bytes = (present + more).saturating_sub(rng.pick(&[0, 0, 0, 1, 4]));
     sizes
+}
+
+/// Images with huge parts, one of each kind, and all bytes that a sum with wrap
+/// would ask for.
+pub fn wrapping_images(rng: &mut Rng) -> Vec<Vec<u8>> {
+    let image = |kind| {
+        let sizes = huge(rng, kind);
+        render(rng, &Sizes { bytes: 1000, ..sizes })
+    };
+    (0..KINDS).map(image).collect()
+}
+
+/// An image cut at every byte, from none to a few more than it has.
+pub fn every_length(rng: &mut Rng) -> Vec<Vec<u8>> {
+    let (u, k) = (rng.between(1, 3), rng.between(1, 3));
+    let sizes = agreeing(u, k, rng.below(4), rng.below(3));
+    let whole = render(rng, &Sizes { bytes: 4 * sizes.s + 5, ..sizes });
+    (0..=whole.len()).map(|length| whole[..length].to_vec()).collect()
+}
+
+/// Images of which one size is one more or one less than agrees.
+pub fn one_off(rng: &mut Rng) -> Vec<Vec<u8>> {
+    let base = agreeing(rng.between(1, 3), rng.between(1, 2), rng.between(1, 2), 1);
+    let base = Sizes { bytes: base.bytes + 16, ..base };
+    let off = |add: u64| {
+        let by = |value: u64| value + add - 1;
+        [
+            Sizes { h: by(base.h), ..base },
+            Sizes { s: by(base.s), ..base },
+            Sizes { s: by(base.h), ..base },
+            Sizes { k: by(base.k), ..base },
+            Sizes { m: by(base.m), ..base },
+            Sizes { e: by(base.e), ..base },
+            Sizes { bytes: base.bytes, ..agreeing(base.s - base.h, add, base.m, base.e) },
+        ]
+    };
+    [off(0), off(1), off(2)].concat().iter().map(|sizes| render(rng, sizes)).collect()
 }
 
 /// Sizes that disagree: one off, k = 0, s = h, s below h, one field random.
@@ -97,11 +116,25 @@ fn put(blob: &mut [u8], index: usize, value: u64) {
     }
 }
 
+/// A blob of these sizes, random in all other bytes.
+fn render(rng: &mut Rng, sizes: &Sizes) -> Vec<u8> {
+    let mut blob = rng.bytes(sizes.bytes as usize);
+    put(&mut blob, 1, sizes.h);
+    put(&mut blob, 6, sizes.s);
+    put(&mut blob, 7, sizes.k);
+    put(&mut blob, 8, sizes.m);
+    put(&mut blob, 9, sizes.e);
+    blob
+}
+
 /// A CSS blob, of a few kilobytes at most.
 pub fn css_blob(rng: &mut Rng) -> Vec<u8> {
     let mut sizes = match rng.below(10) {
         0..=4 => small(rng),
-        5 | 6 => huge(rng),
+        5 | 6 => {
+            let kind = rng.below(KINDS);
+            huge(rng, kind)
+        }
         7 | 8 => disagreeing(rng),
         _ => {
             let count = rng.pick(&[0usize, 1, 64, 100, 127, 128, 129, 300]);
@@ -115,11 +148,5 @@ pub fn css_blob(rng: &mut Rng) -> Vec<u8> {
     } else if rng.chance(1, 8) {
         sizes.bytes = rng.pick(&[0, 40, 68, 127, 128]);
     }
-    let mut blob = rng.bytes(sizes.bytes as usize);
-    put(&mut blob, 1, sizes.h);
-    put(&mut blob, 6, sizes.s);
-    put(&mut blob, 7, sizes.k);
-    put(&mut blob, 8, sizes.m);
-    put(&mut blob, 9, sizes.e);
-    blob
+    render(rng, &sizes)
 }

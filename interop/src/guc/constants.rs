@@ -1,0 +1,60 @@
+//! The numbers that include/guc.h names, as this wrapper uses them. `interop/run`
+//! holds the whole list against the header's, name for name and value for value.
+
+macro_rules! constants {
+    ($($name:ident = $value:expr,)*) => {
+        $(pub const $name: u32 = $value;)*
+        /// All of them by name.
+        pub const CONSTANTS: &[(&str, u32)] = &[$((stringify!($name), $name)),*];
+    };
+}
+
+constants! {
+    GUC_OK = 0,
+    GUC_BAD_DESCRIPTOR = 1,
+    GUC_BAD_BUFFER = 2,
+    GUC_BAD_STATE = 3,
+    GUC_BAD_MESSAGE = 4,
+    GUC_SHORT_OUTPUT = 5,
+    GUC_BROKEN = 6,
+    GUC_OVERFLOW = 7,
+    GUC_MISMATCH = 8,
+    GUC_UNDERFLOW = 9,
+    GUC_FULL = 10,
+    GUC_EMPTY = 11,
+    GUC_OUT_OF_TURN = 12,
+    GUC_MALFORMED = 13,
+    GUC_BAD_FIELD = 14,
+    GUC_SHORT_BLOB = 15,
+    GUC_CSS_SIZES = 16,
+    GUC_CSS_BEYOND = 17,
+    GUC_CPD_HEADER = 18,
+    GUC_CPD_ENTRIES = 19,
+    GUC_NO_ENTRY = 20,
+    GUC_CPD_BEYOND = 21,
+    GUC_NO_ROOM = 100,
+    GUC_NO_SUCH = 101,
+    GUC_STATE_WORDS = 260,
+    GUC_DESC_DWORDS = 16,
+    GUC_MESSAGE_DWORDS = 256,
+    GUC_DESC_HEAD = 0,
+    GUC_DESC_TAIL = 1,
+    GUC_DESC_STATUS = 2,
+    GUC_STATE_N = 0,
+    GUC_STATE_OWN = 1,
+    GUC_STATE_LEN = 2,
+    GUC_STATE_MOVED = 3,
+    GUC_STATE_COPY = 4,
+    GUC_TYPE_REQUEST = 0,
+    GUC_TYPE_EVENT = 1,
+    GUC_TYPE_BUSY = 3,
+    GUC_TYPE_RETRY = 5,
+    GUC_TYPE_FAILURE = 6,
+    GUC_TYPE_SUCCESS = 7,
+    GUC_ORIGIN_HOST = 0,
+    GUC_ORIGIN_GUC = 1,
+    GUC_PART_UCODE = 0,
+    GUC_PART_RSA = 1,
+    GUC_PART_MODULUS = 2,
+    GUC_PART_EXPONENT = 3,
+}

@@ -1,0 +1,74 @@
+//! Sets of which every member must come up in a run.
+
+#[derive(Clone, Copy, Debug, PartialEq, Eq)]
+pub enum Set {
+    HeaderLength,
+    NameBit,
+    ManifestBit,
+    HucBit,
+    ZeroPlace,
+    MarkerBit,
+    OffsetBit,
+    StatusBit,
+    HeaderBit,
+    Kind,
+    SendLength,
+    ReceiveLength,
+}
+
+/// Each with its name and how many members it has, in the order of `Set`.
+pub const SETS: [(Set, &str, usize); 12] = [
+    (Set::HeaderLength, "header length H, 0 to 255", 256),
+    (Set::NameBit, "bit of an entry's name that alone is not the name sought", 96),
+    (Set::ManifestBit, "bit of an entry's name that alone is not HUCP.man", 96),
+    (Set::HucBit, "bit of an entry's name that alone is not huc_fw", 96),
+    (Set::ZeroPlace, "place of a zero in a name sought", 12),
+    (Set::MarkerBit, "bit of the marker that alone is wrong", 32),
+    (Set::OffsetBit, "offset bit from 24 on that alone is set", 8),
+    (Set::StatusBit, "bit of STATUS that alone is set", 32),
+    (Set::HeaderBit, "bit of format and reserved that alone is set", 8),
+    (Set::Kind, "HXG type, 0 to 7", 8),
+    (Set::SendLength, "L of a send that is all that is free (less 2)", 255),
+    (Set::ReceiveLength, "L of a receive that is all that is used (less 1)", 256),
+];
+
+/// How often each member came up.
+#[derive(Clone, Debug)]
+pub struct Members([Vec<u64>; SETS.len()]);
+
+impl Default for Members {
+    fn default() -> Members {
+        Members(SETS.map(|(_, _, count)| vec![0; count]))
+    }
+}
+
+impl Members {
+    pub fn count(&mut self, set: Set, index: usize) {
+        self.0[set as usize][index] += 1;
+    }
+
+    pub fn add(&mut self, other: &Members) {
+        for (mine, theirs) in self.0.iter_mut().zip(&other.0) {
+            mine.iter_mut().zip(theirs).for_each(|(a, b)| *a += b);
+        }
+    }
+
+    /// The least count of a set's members.
+    pub fn least(&self, set: Set) -> u64 {
+        self.0[set as usize].iter().copied().min().unwrap_or(0)
+    }
+
+    /// Members that never came up.
+    pub fn missing(&self) -> Vec<String> {
+        let mut missing = Vec::new();
+        for (set, name, _) in SETS {
+            let counts = self.0[set as usize].iter().enumerate();
+            let never: Vec<usize> =
+                counts.filter(|(_, count)| **count == 0).map(|(index, _)| index).collect();
+            if !never.is_empty() {
+                missing.push(format!("{name}: {never:?}"));
+            }
+        }
+        missing
+    }
+}

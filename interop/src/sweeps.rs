@@ -1,0 +1,68 @@
+//! Sweeps: inputs made on purpose, one for each member of a set and each side of
+//! a boundary, so that none of them is left to chance.
+
+use crate::calls::check_case;
+use crate::firmware::{check_css_blob, check_directory};
+use crate::messages::{check_fields, check_message};
+use crate::same::Outcome;
+use crate::tally::Tally;
+use model::generate::{self, CpdCase, Rng};
+use model::run::Case;
+
+/// All inputs of one sweep.
+type Sweep<T> = fn(&mut Rng) -> Vec<T>;
+
+/// Calls of the channel.
+const CALLS: [Sweep<Case>; 4] = [
+    generate::every_message_length,
+    generate::every_size,
+    generate::every_descriptor,
+    generate::every_state,
+];
+
+/// CSS images.
+const IMAGES: [Sweep<Vec<u8>>; 3] =
+    [generate::every_length, generate::one_off, generate::wrapping_images];
+
+/// Directories with a name to seek.
+const DIRECTORIES: [Sweep<CpdCase>; 6] = [
+    generate::every_name_bit,
+    generate::every_name_length,
+    generate::every_header_length,
+    generate::every_part_length,
+    generate::every_upper_bit,
+    generate::every_wrap,
+];
+
+/// All sweeps of the channel and of messages.
+pub fn check_channel(rng: &mut Rng, tally: &mut Tally) -> Outcome {
+    for sweep in CALLS {
+        for case in sweep(rng) {
+            check_case(rng, tally, case)?;
+        }
+    }
+    for message in generate::every_message(rng) {
+        check_message(rng, tally, &message)?;
+    }
+    for fields in generate::every_field(rng) {
+        check_fields(rng, tally, fields)?;
+    }
+    Ok(())
+}
+
+/// All sweeps of firmware; an image is also judged as the part of a directory.
+pub fn check_firmware(rng: &mut Rng, tally: &mut Tally) -> Outcome {
+    for sweep in IMAGES {
+        for image in sweep(rng) {
+            check_css_blob(rng, tally, &image)?;
+            let case = generate::directory_of(rng, b"huc_fw", image);
+            check_directory(rng, tally, &case.blob, &case.name)?;
+        }
+    }
+    for sweep in DIRECTORIES {
+        for case in sweep(rng) {
+            check_directory(rng, tally, &case.blob, &case.name)?;
+        }
+    }
+    Ok(())
+}

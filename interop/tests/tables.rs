@@ -1,0 +1,87 @@
+//! The tables behind the report: their order, the wrapper's constants against
+//! the model's, and where inputs of the paper's own examples stand.
+
+use interop::edges::directories::{of_directory, of_manifest};
+use interop::edges::images::of_image;
+use interop::edges::messages::of_message;
+use interop::edges::{Edge, Stands, BOUNDARIES};
+use interop::functions::{Fun, FUNCTIONS};
+use interop::guc::constants::*;
+use interop::sets::{Set, SETS};
+use interop::tally::Tally;
+use model::channel::{HEAD, STATUS, TAIL};
+use model::message::{known, MALFORMED, TOO_WIDE};
+
+#[test]
+fn tables_are_in_order() {
+    assert!(FUNCTIONS.iter().enumerate().all(|(at, (fun, ..))| *fun as usize == at));
+    assert!(BOUNDARIES.iter().enumerate().all(|(at, row)| row.edge as usize == at));
+    assert!(SETS.iter().enumerate().all(|(at, (set, ..))| *set as usize == at));
+    assert_eq!(Edge::Manifest as usize + 1, BOUNDARIES.len());
+}
+
+#[test]
+fn constants_are_the_papers() {
+    let places = [GUC_DESC_HEAD, GUC_DESC_TAIL, GUC_DESC_STATUS].map(|place| place as usize);
+    assert_eq!(places, [HEAD, TAIL, STATUS]);
+    assert_eq!((GUC_BAD_MESSAGE, GUC_BAD_FIELD), (MALFORMED, TOO_WIDE));
+    let types = [GUC_TYPE_REQUEST, GUC_TYPE_EVENT, GUC_TYPE_BUSY, GUC_TYPE_RETRY];
+    assert!(types.into_iter().all(known) && known(GUC_TYPE_FAILURE) && known(GUC_TYPE_SUCCESS));
+    assert_eq!(GUC_STATE_WORDS, GUC_STATE_COPY + GUC_MESSAGE_DWORDS);
+    let mut names: Vec<&str> = CONSTANTS.iter().map(|(name, _)| *name).collect();
+    names.sort_unstable();
+    names.dedup();
+    assert_eq!(names.len(), CONSTANTS.len());
+}
+
+fn image(sizes: [u32; 5], bytes: usize) -> Vec<u8> {
+    let mut blob = vec![0xAA; bytes];
+    for (index, value) in [1, 6, 7, 8, 9].into_iter().zip(sizes) {
+        blob[4 * index..4 * index + 4].copy_from_slice(&value.to_le_bytes());
+    }
+    blob
+}
+
+/// The side of this boundary at which an input stands, if it does.
+fn side(stands: &Stands, edge: Edge) -> Option<usize> {
+    stands.sides.iter().find(|(at, _)| *at == edge).map(|(_, side)| *side)
+}
+
+#[test]
+fn images_stand_at_their_ends() {
+    let at = |edge, bytes| side(&of_image(&image([161, 1161, 64, 64, 1], bytes)), edge);
+    let ends = [4382, 4383, 4384, 4385].map(|bytes| at(Edge::CssEnd, bytes));
+    assert_eq!(ends, [None, Some(0), Some(1), None]);
+    let full = [4642, 4643, 4644, 4645].map(|bytes| at(Edge::CssFull, bytes));
+    assert_eq!(full, [None, Some(0), Some(1), None]);
+    let wrapped = of_image(&image([33, 1161, 1, u32::MAX, 1], 500));
+    assert_eq!(wrapped.marks, ["wrap at + m"]);
+}
+
+#[test]
+fn directories_and_messages_stand() {
+    let mut blob = b"$CPD\x01\0\0\0\x01\x01\x14\0........HUCP.mao\0\0\0\0".to_vec();
+    blob.extend([44, 0, 0, 0, 43, 0, 0, 0, 0, 0, 0, 0]);
+    blob.resize(87, 1);
+    let (stands, part) = of_directory(&blob, b"HUCP.man", Set::NameBit);
+    assert_eq!((part, stands.members), (None, vec![(Set::NameBit, 56)]));
+    blob[27] = b'n';
+    let stands = of_manifest(&blob);
+    let sides = [Edge::Manifest, Edge::CpdEnd, Edge::CpdHeader].map(|edge| side(&stands, edge));
+    assert_eq!(sides, [Some(0), Some(0), Some(1)]);
+    assert_eq!(stands.members, [(Set::HeaderLength, 20)]);
+    let (stands, well_formed) = of_message(&[0x1234_0001, 0xF000_0000, 0]);
+    assert_eq!((side(&stands, Edge::MessageAbove), well_formed), (Some(1), false));
+}
+
+#[test]
+fn a_side_must_be_answered_as_the_paper_says() {
+    let (stands, _) = of_message(&[0x1234_0001]);
+    let mut tally = Tally::default();
+    assert!(tally.answer_at(Fun::Unpack, 0, &stands).is_err());
+    assert!(tally.answer_at(Fun::Unpack, 4, &stands).is_ok());
+    assert_eq!(tally.both_sides(Edge::MessageBelow), [1, 0]);
+    let missing = tally.missing();
+    assert!(missing.iter().any(|line| line == "guc_unpack: the message's dwords, L"));
+    assert!(!missing.iter().any(|line| line == "guc_unpack: the message's dwords, L - 1"));
+}
