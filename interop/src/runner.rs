@@ -21,22 +21,25 @@ pub struct Group {
     pub about: &'static str,
 }
 
-pub const GROUPS: [Group; 10] = [
-    group("calls", 235_000, calls::check, "one channel call"),
-    group("lists", 10_000, lists::check, "a list of operations, both sides"),
-    group("tampered", 10_000, lists::check_tampered, "a list with foreign writes"),
-    group("packing", 230_000, messages::check_packing, "fields packed, unpacked"),
-    group("unpacking", 135_000, messages::check_unpacking, "a message unpacked, packed"),
-    group("css", 200_000, firmware::check_css, "an image, all its functions"),
-    group("cpd", 179_850, firmware::check_cpd, "a directory, all its functions"),
-    group("big", 150, big::check, "a blob up to 19 MiB"),
-    group("channels", 100, sweeps::check_channel, "all sweeps of the channel"),
-    group("firmwares", 100, sweeps::check_firmware, "all sweeps of firmware"),
-];
-
-const fn group(name: &'static str, share: u64, check: Check, about: &'static str) -> Group {
-    Group { name, share, check, about }
+// Not a const fn: until Rust 1.83 one may not take a function that takes &mut.
+macro_rules! group {
+    ($name:expr, $share:expr, $check:expr, $about:expr) => {
+        Group { name: $name, share: $share, check: $check, about: $about }
+    };
 }
+
+pub const GROUPS: [Group; 10] = [
+    group!("calls", 235_000, calls::check, "one channel call"),
+    group!("lists", 10_000, lists::check, "a list of operations, both sides"),
+    group!("tampered", 10_000, lists::check_tampered, "a list with foreign writes"),
+    group!("packing", 230_000, messages::check_packing, "fields packed, unpacked"),
+    group!("unpacking", 135_000, messages::check_unpacking, "a message unpacked, packed"),
+    group!("css", 200_000, firmware::check_css, "an image, all its functions"),
+    group!("cpd", 179_850, firmware::check_cpd, "a directory, all its functions"),
+    group!("big", 150, big::check, "a blob up to 19 MiB"),
+    group!("channels", 100, sweeps::check_channel, "all sweeps of the channel"),
+    group!("firmwares", 100, sweeps::check_firmware, "all sweeps of firmware"),
+];
 
 impl Group {
     /// Its cases in a run of this many; of the large blobs and the sweeps at

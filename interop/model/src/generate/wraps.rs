@@ -18,7 +18,7 @@ fn agreeing_with_wrap(u: u64, k: u64, m: u64, e: u64) -> Sizes {
 }
 
 /// Sizes of this kind around small ones that agree.
-pub fn wrapping(rng: &mut Rng, base: &Sizes, kind: u64) -> Sizes {
+pub(super) fn wrapping(rng: &mut Rng, base: &Sizes, kind: u64) -> Sizes {
     let (u, k, m, e) = (base.s - base.h, base.k, base.m, base.e);
     let some = rng.below(20);
     let turns = rng.between(1, 3);
