@@ -6,9 +6,9 @@ use mathlib.Core.List.{List, [], _∷_}
 use native.Mathlib.Omega.{arith}
 use lib.ListN.{length, getD}
 use lib.Dec.{eqb, leb, ltb}
-use borrow.Author.Tests.{eq-eqb, eqb-true, ne-eqb, le-leb, leb-true, leb-false, lt-leb, le-ltb, lt-ltb, ltb-false, not-false}
+use borrow.Author.Tests.{eq-eqb, eqb-true, ne-eqb, le-leb, leb-true, leb-false, lt-leb, le-ltb, lt-ltb, ltb-true, ltb-false, not-false}
 use denote.Ref.{RefT, now}
-use Rattle.firmware.specs.Bytes.{Span, placed, span}
+use Rattle.firmware.specs.Bytes.{nowhere, placed, span}
 use Rattle.firmware.specs.Css
 use Rattle.firmware.specs.Cpd
 use Rattle.firmware.specs.Inside.{hucName, hucBlob, hucLocated, hucNumber, hucPlace, hucTruncated, manifestName, manifestNumber, partNamed, within}
@@ -77,7 +77,7 @@ unfolding Cpd.entryPlace
 entry-at b i e = rw e
 
 part-at : (b : List ℕ) (i : ℕ) (l : Located) → l ≡ placed 0 false (Cpd.entryPart b (Cpd.entryStart b i)) → At (offsetAt b (entryAt b i)) (sizeAt b (entryAt b i)) l
-part-at b i l e = rw e (record { accepted = refl; starts = refl; bytes = omega arith })
+part-at b i l e = rw e (record { accepted = refl; starts = refl; size = omega arith })
 
 entry-count : (b : List ℕ) → Cpd.directoryNumber b ≡ 0 → Cpd.entriesOf b .count ≡ Cpd.count b
 unfolding Cpd.entriesOf
@@ -86,6 +86,15 @@ entry-count b e = rw e
 entry-name : (b : List ℕ) (i : ℕ) → IsDirectory b → i < Cpd.count b → Cpd.namePlace b i ≡ span (entryAt b i) (entryAt b i + 12)
 unfolding Cpd.namePlace
 entry-name b i x l = rw (entry-count b (directory-passes b x), lt-ltb i (Cpd.count b) l)
+
+no-entry-name : (b : List ℕ) (i : ℕ) → (IsDirectory b → i < Cpd.count b → ⊥) → Cpd.namePlace b i ≡ nowhere
+unfolding Cpd.namePlace Cpd.entriesOf
+no-entry-name b i f =
+    cases (eqb (Cpd.directoryNumber b) 0)
+    (λ t.
+    let e : Cpd.directoryNumber b ≡ 0 = eqb-true (Cpd.directoryNumber b) 0 t in
+    cases (ltb i (Cpd.count b)) (λ u. absurd (f (directory-is b e) (ltb-true i (Cpd.count b) u))) (λ u. rw (t, u)))
+    (λ t. rw (t, le-ltb i 0 (omega arith)))
 
 -- ---- the part of a name
 
@@ -247,12 +256,13 @@ directories =
       refused = λ b name z. empty-at-start (Cpd.number b name) false _ (rw (name-nowhere b name (ne-eqb (Cpd.number b name) 0 z)));
       within = λ b name. located-ends (length b) (Cpd.place b name) (cpd-lies b name) (Cpd.number b name) false refl;
       very-bytes = λ name blob part. very-bytes (Cpd.number (now blob) name) false (Cpd.place (now blob) name) blob part;
-      count = λ b. (directory-is b, directory-passes b);
-      counted = entry-count;
+      directory-exactly = λ b. (directory-is b, directory-passes b);
+      entry-count = entry-count;
       entry = λ b i. (entry-is b i, entry-passes b i);
       entry-part = λ b i x. let z = entry-passes b i x in part-at b i _ (rw (z, entry-at b i z));
       entry-not-truncated = λ b i. refl;
       entry-name = entry-name;
+      no-entry-name = no-entry-name;
     }
 
 pub inside : InsideDirectories

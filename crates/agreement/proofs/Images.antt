@@ -18,7 +18,7 @@ use Rattle.firmware.specs.declared.css.Component.the-variants.{Ucode, Rsa, Modu
 use Rattle.firmware.proofs.Lies.{Accepted, css-accepted, css-lies, located-ends}
 use Rattle.firmware.proofs.Nowhere.{image-nowhere}
 use Rattle.firmware.proofs.Tests.{both}
-use Rattle.agreement.specs.Images.{At, EmptyAtStart, ImageParts, Images, IsImage, VeryBytes, e, end, h, k, m, s}
+use Rattle.agreement.specs.Images.{At, EmptyAtStart, ImageParts, Images, IsImage, VeryBytes, e, endOf, h, k, m, s}
 
 -- a location that is nowhere
 pub empty-at-start : (number : ℕ) (t : Bool) (l : Located) → l ≡ placed number t nowhere → EmptyAtStart number l
@@ -57,7 +57,7 @@ module _ (b : List ℕ) (z : Css.number b ≡ 0) where
   unshown-back which q l = q ∙ rw (is-accepted, lt-leb (4 * s b) (length b) l)
 
   at : (start len : ℕ) (t : Bool) (p : Span) (l : Located) → l ≡ placed 0 t p → p .from ≡ start → p .to - p .from ≡ len → At start len l
-  at start len t p l q f g = rw q (record { accepted = refl; starts = f; bytes = g })
+  at start len t p l q f g = rw q (record { accepted = refl; starts = f; size = g })
 
   ucode-shown : Css.located Ucode b ≡ placed 0 (Css.truncated b) (Css.spanOf Ucode (Css.sizes b))
   unfolding Css.shown
@@ -83,28 +83,28 @@ module _ (b : List ℕ) (z : Css.number b ≡ 0) where
   unfolding Css.spanOf Css.sizes
   ucode-at = at _ _ _ _ _ ucode-shown refl (omega arith)
 
-  rsa-at : At (end (Css.located Ucode b)) (4 * k b) (Css.located Rsa b)
+  rsa-at : At (endOf (Css.located Ucode b)) (4 * k b) (Css.located Rsa b)
   unfolding Css.spanOf Css.sizes
-  rsa-at = at _ _ _ _ _ rsa-shown (omega (arith, ucode-at .starts, ucode-at .bytes)) (omega arith)
+  rsa-at = at _ _ _ _ _ rsa-shown (omega (arith, ucode-at .starts, ucode-at .size)) (omega arith)
 
-  modulus-at : 4 * s b ≤ length b → At (end (Css.located Rsa b)) (4 * m b) (Css.located Modulus b)
+  modulus-at : 4 * s b ≤ length b → At (endOf (Css.located Rsa b)) (4 * m b) (Css.located Modulus b)
   unfolding Css.spanOf Css.sizes
   modulus-at l =
-      at _ _ _ _ _ (modulus-shown l) (omega (arith, ucode-at .starts, ucode-at .bytes, rsa-at .starts, rsa-at .bytes)) (omega arith)
+      at _ _ _ _ _ (modulus-shown l) (omega (arith, ucode-at .starts, ucode-at .size, rsa-at .starts, rsa-at .size)) (omega arith)
 
-  exponent-at : 4 * s b ≤ length b → At (end (Css.located Modulus b)) (4 * e b) (Css.located Exponent b)
+  exponent-at : 4 * s b ≤ length b → At (endOf (Css.located Modulus b)) (4 * e b) (Css.located Exponent b)
   unfolding Css.spanOf Css.sizes
   exponent-at l =
       at _ _ _ _ _ (exponent-shown l)
-      (omega (arith, ucode-at .starts, ucode-at .bytes, rsa-at .starts, rsa-at .bytes, modulus-at l .starts, modulus-at l .bytes))
+      (omega (arith, ucode-at .starts, ucode-at .size, rsa-at .starts, rsa-at .size, modulus-at l .starts, modulus-at l .size))
       (omega arith)
 
-  at-4s : 4 * s b ≤ length b → end (Css.located Exponent b) ≡ 4 * s b
+  at-4s : 4 * s b ≤ length b → endOf (Css.located Exponent b) ≡ 4 * s b
   unfolding Css.sizes
   at-4s l =
       let f = facts in
       omega
-      (arith, f .sum, f .above, ucode-at .starts, ucode-at .bytes, rsa-at .starts, rsa-at .bytes, modulus-at l .starts, modulus-at l .bytes, exponent-at l .starts, exponent-at l .bytes)
+      (arith, f .sum, f .above, ucode-at .starts, ucode-at .size, rsa-at .starts, rsa-at .size, modulus-at l .starts, modulus-at l .size, exponent-at l .starts, exponent-at l .size)
 
   is-image : IsImage b
   unfolding Css.sizes

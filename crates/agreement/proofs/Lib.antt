@@ -1,3 +1,3 @@
-pub mod Carried
+pub mod VeryDwords
 pub mod Images
 pub mod Directories

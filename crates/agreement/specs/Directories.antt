@@ -6,13 +6,13 @@ use mathlib.Core.Bool.{false}
 use mathlib.Core.List.{List, [], _∷_}
 use lib.ListN.{length, getD}
 use denote.Ref.{RefT, now}
-use Rattle.firmware.specs.Bytes.{PartOf, dwordAt, span, wordAt}
+use Rattle.firmware.specs.Bytes.{PartOf, dwordAt, nowhere, span, wordAt}
 use Rattle.firmware.specs.Css
 use Rattle.firmware.specs.Cpd
 use Rattle.firmware.specs.Inside.{manifestName, hucAnswer, hucName, hucNumber, hucLocated, hucPlace}
 use Rattle.firmware.specs.Version.{cssReading, hucReading, manifestReading}
 use Rattle.firmware.specs.declared.css.Component.{Component}
-use Rattle.agreement.specs.Images.{At, EmptyAtStart, VeryBytes, bytesOf, end}
+use Rattle.agreement.specs.Images.{At, EmptyAtStart, VeryBytes, bytesOf, endOf}
 
 -- 'Entries start at byte H': the byte where entry i starts; 'header length H is the byte at 10'
 abbrev pub entryAt : List ℕ → ℕ → ℕ
@@ -93,19 +93,21 @@ pub record Directories : Type 0 where
   -- 'a refused location gives the empty part at the start of the lent blob'
   pub refused : (b name : List ℕ) → (Cpd.number b name ≡ 0 → ⊥) → EmptyAtStart (Cpd.number b name) (Cpd.located b name)
   -- what is located lies in the blob, and is handed back as that part of it
-  pub within : (b name : List ℕ) → end (Cpd.located b name) ≤ length b
+  pub within : (b name : List ℕ) → endOf (Cpd.located b name) ≤ length b
   pub very-bytes :
       (name : List ℕ) (blob part : RefT (List ℕ)) → PartOf blob (Cpd.place (now blob) name) part
       → VeryBytes blob (Cpd.located (now blob) name) part
   -- ours, for a list of all entries: how many a directory has, each entry's part, and its twelve name bytes
-  pub count : (b : List ℕ) → (Cpd.entriesOf b .code ≡ 0) ↔ IsDirectory b
-  pub counted : (b : List ℕ) → Cpd.entriesOf b .code ≡ 0 → Cpd.entriesOf b .count ≡ dwordAt b 4
+  pub directory-exactly : (b : List ℕ) → (Cpd.entriesOf b .code ≡ 0) ↔ IsDirectory b
+  pub entry-count : (b : List ℕ) → Cpd.entriesOf b .code ≡ 0 → Cpd.entriesOf b .count ≡ dwordAt b 4
   pub entry : (b : List ℕ) (i : ℕ) → (Cpd.entryLocated b i .code ≡ 0) ↔ EntryThere b i
   pub entry-part :
       (b : List ℕ) (i : ℕ) → EntryThere b i → At (offsetAt b (entryAt b i)) (sizeAt b (entryAt b i)) (Cpd.entryLocated b i)
   pub entry-not-truncated : (b : List ℕ) (i : ℕ) → Cpd.entryLocated b i .truncated ≡ false
   pub entry-name :
       (b : List ℕ) (i : ℕ) → IsDirectory b → i < dwordAt b 4 → Cpd.namePlace b i ≡ span (entryAt b i) (entryAt b i + 12)
+  pub no-entry-name :
+      (b : List ℕ) (i : ℕ) → (IsDirectory b → i < dwordAt b 4 → ⊥) → Cpd.namePlace b i ≡ nowhere
 
 -- what lies inside a directory, of every blob
 pub record InsideDirectories : Type 0 where
@@ -119,7 +121,7 @@ pub record InsideDirectories : Type 0 where
   pub huc-answer :
       (which : Component) (b : List ℕ)
       → (hucAnswer b .code ≡ hucLocated which b .code) × (hucAnswer b .truncated ≡ hucLocated which b .truncated)
-  pub huc-within : (which : Component) (b : List ℕ) → end (hucLocated which b) ≤ length b
+  pub huc-within : (which : Component) (b : List ℕ) → endOf (hucLocated which b) ≤ length b
   pub huc-very-bytes :
       (which : Component) (blob part : RefT (List ℕ)) → PartOf blob (hucPlace which (now blob)) part
       → VeryBytes blob (hucLocated which (now blob)) part

@@ -2,7 +2,7 @@
 use Prim.Native.Nat.{ℕ, _+_, _-_, _*_, _/_, _%_, _≤_, _<_, _^_}
 use mathlib.Core.Path.{_≡_}
 use mathlib.Core.Logic.{_↔_}
-use mathlib.Core.Bool.{true, false}
+use mathlib.Core.Bool.{true}
 use mathlib.Core.List.{List, [], _∷_}
 use lib.ListN.{length, take, drop}
 use denote.Ref.{RefT, ptr, now}
@@ -17,11 +17,11 @@ use Rattle.firmware.specs.declared.css.Component.the-variants.{Ucode, Rsa, Modu
 pub record At (start len : ℕ) (l : Located) : Type 0 where
   pub accepted : l .code ≡ 0
   pub starts : l .start ≡ start
-  pub bytes : l .len ≡ len
+  pub size : l .len ≡ len
 
 -- where it ends, excluded
-abbrev pub end : Located → ℕ
-end l = l .start + l .len
+abbrev pub endOf : Located → ℕ
+endOf l = l .start + l .len
 
 -- 'the empty part at the start of the lent blob', beside a number
 pub record EmptyAtStart (number : ℕ) (l : Located) : Type 0 where
@@ -55,8 +55,8 @@ m b = Css.headerDword b 8
 abbrev pub e : List ℕ → ℕ
 e b = Css.headerDword b 9
 
-abbrev pub version : List ℕ → ℕ
-version b = Css.headerDword b 16
+abbrev pub versionDword : List ℕ → ℕ
+versionDword b = Css.headerDword b 16
 
 -- 'at least 128 bytes'; 'Over whole numbers h = 32 + k + m + e, k at least 1, s above h'; 'Bytes 128 + 4(s - h) + 4k must be there'
 pub record IsImage (b : List ℕ) : Type 0 where
@@ -70,12 +70,12 @@ pub record IsImage (b : List ℕ) : Type 0 where
 pub record ImageParts (b : List ℕ) : Type 0 where
   -- 'Order: header, uCode, RSA, modulus, exponent.': uCode lies past the header, the RSA past it
   pub ucode : At 128 (4 * (s b - h b)) (Css.located Ucode b)
-  pub rsa : At (end (Css.located Ucode b)) (4 * k b) (Css.located Rsa b)
+  pub rsa : At (endOf (Css.located Ucode b)) (4 * k b) (Css.located Rsa b)
   -- 'Modulus and exponent are shown when the blob has at least 4s bytes': past the RSA, and the exponent past the modulus. 'Bytes past 4s belong to no
   -- part.': the last one ends there
-  pub modulus : 4 * s b ≤ length b → At (end (Css.located Rsa b)) (4 * m b) (Css.located Modulus b)
-  pub exponent : 4 * s b ≤ length b → At (end (Css.located Modulus b)) (4 * e b) (Css.located Exponent b)
-  pub ends-at-4s : 4 * s b ≤ length b → end (Css.located Exponent b) ≡ 4 * s b
+  pub modulus : 4 * s b ≤ length b → At (endOf (Css.located Rsa b)) (4 * m b) (Css.located Modulus b)
+  pub exponent : 4 * s b ≤ length b → At (endOf (Css.located Modulus b)) (4 * e b) (Css.located Exponent b)
+  pub ends-at-4s : 4 * s b ≤ length b → endOf (Css.located Exponent b) ≡ 4 * s b
   -- 'else neither is (a truncated image): both are the empty part that a refusal gives, but the answer is 0'
   pub no-modulus : length b < 4 * s b → EmptyAtStart 0 (Css.located Modulus b)
   pub no-exponent : length b < 4 * s b → EmptyAtStart 0 (Css.located Exponent b)
@@ -83,7 +83,7 @@ pub record ImageParts (b : List ℕ) : Type 0 where
   pub reading-code : cssReading b .number ≡ 0
   pub reading :
       cssReading b .version
-      ≡ (version b / 2 ^ 16 % 2 ^ 8) ∷ (version b / 2 ^ 8 % 2 ^ 8) ∷ (version b % 2 ^ 8) ∷ []
+      ≡ (versionDword b / 2 ^ 16 % 2 ^ 8) ∷ (versionDword b / 2 ^ 8 % 2 ^ 8) ∷ (versionDword b % 2 ^ 8) ∷ []
 
 -- of every blob and component
 pub record Images : Type 0 where
@@ -104,7 +104,7 @@ pub record Images : Type 0 where
   pub refused : (which : Component) (b : List ℕ) → (Css.number b ≡ 0 → ⊥) → EmptyAtStart (Css.number b) (Css.located which b)
   pub no-version : (b : List ℕ) → (Css.number b ≡ 0 → ⊥) → cssReading b .version ≡ []
   -- what is located lies in the blob
-  pub within : (which : Component) (b : List ℕ) → end (Css.located which b) ≤ length b
+  pub within : (which : Component) (b : List ℕ) → endOf (Css.located which b) ≤ length b
   -- 'Each component is handed back as that part of the lent blob', by each function whose contract has it
   pub very-bytes :
       (which : Component) (blob part : RefT (List ℕ)) → PartOf blob (Css.place which (now blob)) part

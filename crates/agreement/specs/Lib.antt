@@ -1,4 +1,4 @@
-pub mod Carried
+pub mod VeryDwords
 pub mod Images
 pub mod Directories
 pub mod Demand2

@@ -1,4 +1,4 @@
-// Demand 2 as one statement, over the definitions that the contracts of `message` and `firmware` cite.
+// Demand 2 as one statement, over the definitions that the contracts of `message`, `channel` and `firmware` cite.
 ghost use Rattle.agreement.specs.Demand2.{Demand2};
 
 // Does nothing: it is here for its contract, so that nothing passes the gate without the statement.

@@ -26,6 +26,6 @@ stepped r d b = record { code = r .code; len = 0; next = ofReceiver (r .next); d
 abbrev pub received : Received → List ℕ → List ℕ → List ℕ → Outcome
 received r d b o = record { code = r .code; len = r .len; next = ofReceiver (r .next); desc = d; buf = b; out = o }
 
--- a refusal: 'The state comes back unchanged', and so does what was lent
+-- a refusal: 'The state comes back unchanged'; the lent memory is as given here
 abbrev pub refused : ℕ → State → List ℕ → List ℕ → List ℕ → Outcome
 refused c s d b o = record { code = c; len = 0; next = s; desc = d; buf = b; out = o }

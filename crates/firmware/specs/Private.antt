@@ -1,4 +1,4 @@
--- What the crate's private functions answer, in the definitions of Css and Cpd. No public contract cites these.
+-- What the crate's private functions answer, in the definitions of Css, Cpd and Version. No public contract cites these.
 use Prim.Native.Nat.{ℕ, _+_, _*_, _<_, _^_}
 use mathlib.Core.Path.{_≡_}
 use mathlib.Core.Bool.{Bool, cond}

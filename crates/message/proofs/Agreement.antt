@@ -14,7 +14,7 @@ use borrow.Author.Tests.{eqb-true, eqb-false, leb-true, eq-eqb, le-leb}
 use Rattle.message.specs.Fields.{Field, fence, format, reserved, numDwords, origin, fieldOf, FieldValue, fit, dword, holds}
 use Rattle.message.specs.Types.{bodyFields, bodyOf, known, someBody}
 use Rattle.message.specs.Header.{totalLength, isMessage}
-use Rattle.message.specs.Packing.{originNumber, originOf, decoded, unpack, headerFields, hxgFields, pack}
+use Rattle.message.specs.Packing.{originNumber, originOf, decoded, unpack, headerFields, hxgFields, pack, refusing}
 use Rattle.message.specs.Agreement.{Agreement}
 use Rattle.message.specs.declared.Origin.{Origin}
 use Rattle.message.specs.declared.Origin.the-variants.{Host, Guc}
@@ -39,6 +39,12 @@ origin-there bit l = go (eqb bit 0) refl
     go : (t : Bool) → eqb bit 0 ≡ t → originNumber (cond t Host Guc) ≡ bit
     go true e = omega (arith, eqb-true bit 0 e)
     go false e = omega (arith, eqb-false bit 0 e)
+
+-- what an answer carries
+answers : {A : Type 0} (n : ℕ) (x : Option A) → refusing n x .value ≡ x
+unfolding refusing
+answers n none = refl
+answers n (some a) = refl
 
 eqb-self : (n : ℕ) → eqb n n ≡ true
 eqb-self n = eq-eqb n n refl
@@ -184,6 +190,8 @@ packs-from m h w lh lw u =
 pub agreement : Agreement
 agreement =
     record {
+      packing-answers = λ m. answers 14 (pack m);
+      unpacking-answers = λ d. answers 4 (unpack d);
       unknown-2 = λ w e. simp (known-is, e);
       unknown-4 = λ w e. simp (known-is, e);
       accepts =

@@ -9,10 +9,13 @@ use lib.ListN.{length, getD}
 use Rattle.message.specs.Fields.{type, fieldOf, holds}
 use Rattle.message.specs.Types.{known}
 use Rattle.message.specs.Header.{isMessage}
-use Rattle.message.specs.Packing.{unpack, pack, headerFields, hxgFields}
+use Rattle.message.specs.Packing.{unpack, pack, headerFields, hxgFields, packAnswer, unpackAnswer}
 use Rattle.message.specs.declared.Message.{Message}
 
 pub record Agreement : Type 0 where
+  -- what the calls answer, beside their number, is this
+  pub packing-answers : (m : Message) → packAnswer m .value ≡ pack m
+  pub unpacking-answers : (d : List ℕ) → unpackAnswer d .value ≡ unpack d
   -- 'Types 2 and 4 are unknown.'
   pub unknown-2 : (w : ℕ) → fieldOf type w ≡ 2 → known w ≡ false
   pub unknown-4 : (w : ℕ) → fieldOf type w ≡ 4 → known w ≡ false

@@ -12,7 +12,7 @@ use Rattle.ring.specs.Ring.{HEAD, STATUS, head, tail, status}
 use Rattle.ring.specs.Numbers.{need}
 use Rattle.ring.proofs.Chains.{true-false}
 use Rattle.message.proofs.Tests.{cases}
-use Rattle.refusals.specs.Left.{descriptorLeft, reserved, unreserved}
+use Rattle.refusals.specs.Left.{descriptorLeft, reservedWords, unreservedWords}
 
 -- a number is one of a list
 unfoldable pub oneOf : List ℕ → ℕ → Bool
@@ -49,12 +49,12 @@ not-one may c k p q =
 -- two descriptors that differ in reserved words alone
 pub record Alike (d e : List ℕ) : Type 0 where
   pub size : length d ≡ length e
-  pub front : unreserved d ≡ unreserved e
+  pub front : unreservedWords d ≡ unreservedWords e
   pub heads : head d ≡ head e
   pub tails : tail d ≡ tail e
   pub statuses : status d ≡ status e
 
-pub alike : (d e : List ℕ) → length d ≡ length e → unreserved d ≡ unreserved e → Alike d e
+pub alike : (d e : List ℕ) → length d ≡ length e → unreservedWords d ≡ unreservedWords e → Alike d e
 alike d e l f =
     let at : (i : ℕ) → i < 3 → getD d i 0 ≡ getD e i 0 =
     λ i h. sym (getD-take 3 d i 0 h) ∙ ap (λ (x : List ℕ). getD x i 0) f ∙ getD-take 3 e i 0 h in
@@ -62,8 +62,8 @@ alike d e l f =
 
 -- a change of a descriptor that neither heeds nor changes reserved words
 pub record Mild (f : List ℕ → List ℕ) : Type 0 where
-  pub rest : (d : List ℕ) → reserved (f d) ≡ reserved d
-  pub front : (d e : List ℕ) → unreserved d ≡ unreserved e → unreserved (f d) ≡ unreserved (f e)
+  pub rest : (d : List ℕ) → reservedWords (f d) ≡ reservedWords d
+  pub front : (d e : List ℕ) → unreservedWords d ≡ unreservedWords e → unreservedWords (f d) ≡ unreservedWords (f e)
 
 pub mild-none : Mild (λ (d : List ℕ). d)
 mild-none = record { rest = λ d. refl; front = λ d e p. p }

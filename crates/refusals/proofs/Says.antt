@@ -9,7 +9,7 @@ use Rattle.channel.specs.State.{State}
 use Rattle.channel.specs.Outcome.{Outcome}
 use Rattle.channel.specs.Operations.{Op, gives}
 use Rattle.message.proofs.Tests.{cases}
-use Rattle.refusals.specs.Left.{OperationRefused, ReservedStay, offsetPast, butReserved, descriptorLeft, output, reserved, stateLeft, unreserved}
+use Rattle.refusals.specs.Left.{OperationRefused, ReservedStay, offsetPast, butReserved, descriptorLeft, output, reservedWords, stateLeft, unreservedWords}
 use Rattle.refusals.proofs.Laws.{Alike, Mild, alike, mild-leaves, oneOf}
 
 -- what is to be shown of an operation that has this number
@@ -70,14 +70,14 @@ module _ (may : List ℕ) (op : Op) (s : State) (b : List ℕ) (number : List �
         let n : eqb (number d) 0 ≡ false = ne-eqb (number d) 0 (λ e. z (code-same d ∙ e)) in
         subst (OperationRefused op s d b) (sym (refused-by d n)) (of-refusal d (number d))
 
-    stays : (d : List ℕ) → reserved (gives op s d b .desc) ≡ reserved d
+    stays : (d : List ℕ) → reservedWords (gives op s d b .desc) ≡ reservedWords d
     stays d =
         cases (eqb (number d) 0)
-        (λ t. ap (λ (x : Outcome). reserved (x .desc)) (accepted d (eqb-true _ 0 t) ∙ accepts .same d) ∙ accepts .is-mild .rest d)
-        (λ t. ap (λ (x : Outcome). reserved (x .desc)) (refused-by d t) ∙ mild-leaves (number d) (offsetPast op s b) .rest d)
+        (λ t. ap (λ (x : Outcome). reservedWords (x .desc)) (accepted d (eqb-true _ 0 t) ∙ accepts .same d) ∙ accepts .is-mild .rest d)
+        (λ t. ap (λ (x : Outcome). reservedWords (x .desc)) (refused-by d t) ∙ mild-leaves (number d) (offsetPast op s b) .rest d)
 
     -- an outcome's descriptor is read by its front
-    but-by : (c k : ℕ) (n : State) (p q r w : List ℕ) → unreserved p ≡ unreserved q
+    but-by : (c k : ℕ) (n : State) (p q r w : List ℕ) → unreservedWords p ≡ unreservedWords q
         → butReserved (record { code = c; len = k; next = n; desc = p; buf = r; out = w }) ≡ butReserved (record { code = c; len = k; next = n; desc = q; buf = r; out = w })
     but-by c k n p q r w e = ap (λ (x : List ℕ). record { code = c; len = k; next = n; desc = x; buf = r; out = w }) e
 

@@ -68,21 +68,21 @@ pub record OpeningRefused (d b : List ℕ) (x : Opening) : Type 0 where
 -- ---- reserved words
 
 -- words '3 to 15 reserved' of a descriptor, and the three before them
-abbrev pub reserved : List ℕ → List ℕ
-reserved d = drop 3 d
+abbrev pub reservedWords : List ℕ → List ℕ
+reservedWords d = drop 3 d
 
-abbrev pub unreserved : List ℕ → List ℕ
-unreserved d = take 3 d
+abbrev pub unreservedWords : List ℕ → List ℕ
+unreservedWords d = take 3 d
 
 -- an outcome but for the reserved words of its descriptor
 abbrev pub butReserved : Outcome → Outcome
 butReserved x =
-    record { code = x .code; len = x .len; next = x .next; desc = unreserved (x .desc); buf = x .buf; out = x .out }
+    record { code = x .code; len = x .len; next = x .next; desc = unreservedWords (x .desc); buf = x .buf; out = x .out }
 
 -- 'Reserved words are neither judged nor changed', by accepted operations too: on a descriptor e that differs from d in them alone, all else comes out
 -- the same
 pub record ReservedStay (operation : List ℕ → Outcome) : Type 0 where
-  pub unchanged : (d : List ℕ) → reserved (operation d .desc) ≡ reserved d
+  pub unchanged : (d : List ℕ) → reservedWords (operation d .desc) ≡ reservedWords d
   pub unjudged :
-      (d e : List ℕ) → length d ≡ length e → unreserved d ≡ unreserved e
+      (d e : List ℕ) → length d ≡ length e → unreservedWords d ≡ unreservedWords e
       → butReserved (operation d) ≡ butReserved (operation e)

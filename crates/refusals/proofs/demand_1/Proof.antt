@@ -17,7 +17,7 @@ use Rattle.firmware.specs.declared.css.Component.the-variants.{Ucode}
 use Rattle.firmware.proofs.Nowhere.{entry-nowhere, huc-nowhere, image-nowhere, name-nowhere}
 use Rattle.refusals.specs.Table.{fits, operationRows}
 use Rattle.refusals.specs.Left.{OperationRefused, ReservedStay}
-use Rattle.refusals.specs.Refusals.{Demand1, Left, PublicCall, directory, entryLocation, hucAnswer, hucLocation, hucVersion, imageAnswer, imageLocation, imageVersion, manifestVersion, namedAnswer, namedLocation, numberOf, openChannel, operation, packing, tests, unpacking}
+use Rattle.refusals.specs.Refusals.{Demand1, LeftBy, PublicCall, directoryCall, entryCall, hucAnswerCall, hucLocationCall, hucVersionCall, imageAnswerCall, imageLocationCall, imageVersionCall, manifestVersionCall, nameAnswerCall, nameLocationCall, numberOf, openCall, operationCall, packCall, tests, unpackCall}
 use Rattle.refusals.proofs.Sends.{send-look, send-move, send-publish, send-whole}
 use Rattle.refusals.proofs.Receives.{opening-refused, receive-look, receive-move, receive-publish, receive-whole}
 use Rattle.refusals.proofs.Lowest.{accepts, allRise, exactly, firstJudged, firstOf, rising}
@@ -78,67 +78,67 @@ no-call (receiveWhole o) n = rw (not-made n)
 
 rise : (x : PublicCall) → allRise (tests x) ≡ true
 unfolding allRise rising
-rise (openChannel d b) = refl
-rise (operation (sendLook m) s d b) = refl
-rise (operation sendMove s d b) = refl
-rise (operation sendPublish s d b) = refl
-rise (operation (sendWhole m) s d b) = refl
-rise (operation receiveLook s d b) = refl
-rise (operation receiveMove s d b) = refl
-rise (operation (receivePublish o) s d b) = refl
-rise (operation (receiveWhole o) s d b) = refl
-rise (packing m) = refl
-rise (unpacking dwords) = refl
-rise (imageLocation which blob) = refl
-rise (imageAnswer blob) = refl
-rise (imageVersion blob) = refl
-rise (namedLocation blob name) = refl
-rise (namedAnswer blob name) = refl
-rise (directory blob) = refl
-rise (entryLocation blob i) = refl
-rise (manifestVersion blob) = refl
-rise (hucLocation which blob) = refl
-rise (hucAnswer blob) = refl
-rise (hucVersion blob) = refl
+rise (openCall d b) = refl
+rise (operationCall (sendLook m) s d b) = refl
+rise (operationCall sendMove s d b) = refl
+rise (operationCall sendPublish s d b) = refl
+rise (operationCall (sendWhole m) s d b) = refl
+rise (operationCall receiveLook s d b) = refl
+rise (operationCall receiveMove s d b) = refl
+rise (operationCall (receivePublish o) s d b) = refl
+rise (operationCall (receiveWhole o) s d b) = refl
+rise (packCall m) = refl
+rise (unpackCall dwords) = refl
+rise (imageLocationCall which blob) = refl
+rise (imageAnswerCall blob) = refl
+rise (imageVersionCall blob) = refl
+rise (nameLocationCall blob name) = refl
+rise (nameAnswerCall blob name) = refl
+rise (directoryCall blob) = refl
+rise (entryCall blob i) = refl
+rise (manifestVersionCall blob) = refl
+rise (hucLocationCall which blob) = refl
+rise (hucAnswerCall blob) = refl
+rise (hucVersionCall blob) = refl
 
 number : (x : PublicCall) → numberOf x ≡ firstJudged (tests x)
 unfolding openBy Cpd.entriesOf cssReading hucReading manifestReading reading
-number (openChannel d b) = opens d b ∙ alone _
-number (operation op s d b) = operation-number op s d b ∙ alone _
-number (packing m) = packs m ∙ alone _
-number (unpacking dwords) = unpacks dwords ∙ alone _
-number (imageLocation which blob) = image-number blob ∙ alone _
-number (imageAnswer blob) = image-number blob ∙ alone _
-number (imageVersion blob) = image-number blob ∙ alone _
-number (namedLocation blob name) = seek-number blob name ∙ alone _
-number (namedAnswer blob name) = seek-number blob name ∙ alone _
-number (directory blob) = directory-number blob ∙ alone _
-number (entryLocation blob i) = entry-number blob i ∙ alone _
-number (manifestVersion blob) = manifest-number blob
-number (hucLocation which blob) = huc-number blob
-number (hucAnswer blob) = huc-number blob
-number (hucVersion blob) = huc-number blob
+number (openCall d b) = opens d b ∙ alone _
+number (operationCall op s d b) = operation-number op s d b ∙ alone _
+number (packCall m) = packs m ∙ alone _
+number (unpackCall dwords) = unpacks dwords ∙ alone _
+number (imageLocationCall which blob) = image-number blob ∙ alone _
+number (imageAnswerCall blob) = image-number blob ∙ alone _
+number (imageVersionCall blob) = image-number blob ∙ alone _
+number (nameLocationCall blob name) = seek-number blob name ∙ alone _
+number (nameAnswerCall blob name) = seek-number blob name ∙ alone _
+number (directoryCall blob) = directory-number blob ∙ alone _
+number (entryCall blob i) = entry-number blob i ∙ alone _
+number (manifestVersionCall blob) = manifest-number blob
+number (hucLocationCall which blob) = huc-number blob
+number (hucAnswerCall blob) = huc-number blob
+number (hucVersionCall blob) = huc-number blob
 
-left : (x : PublicCall) → (numberOf x ≡ 0 → ⊥) → Left x
-unfolding Left Cpd.entriesOf cssReading hucReading manifestReading
-left (openChannel d b) z = opening-refused d b z
-left (operation op s d b) z = operation-refused op s d b z
-left (packing m) z = refused-nothing 14 _ z
-left (unpacking dwords) z = refused-nothing 4 _ z
-left (imageLocation which blob) z = location-refused _ _ (image-nowhere blob which (ne-eqb (Css.number blob) 0 z))
-left (imageAnswer blob) z =
+left : (x : PublicCall) → (numberOf x ≡ 0 → ⊥) → LeftBy x
+unfolding LeftBy Cpd.entriesOf cssReading hucReading manifestReading
+left (openCall d b) z = opening-refused d b z
+left (operationCall op s d b) z = operation-refused op s d b z
+left (packCall m) z = refused-nothing 14 _ z
+left (unpackCall dwords) z = refused-nothing 4 _ z
+left (imageLocationCall which blob) z = location-refused _ _ (image-nowhere blob which (ne-eqb (Css.number blob) 0 z))
+left (imageAnswerCall blob) z =
     location-refused _ _ (image-nowhere blob Ucode (ne-eqb (Css.number blob) 0 z)) .not-truncated
-left (imageVersion blob) z = reading-refused _ _ z
-left (namedLocation blob name) z =
+left (imageVersionCall blob) z = reading-refused _ _ z
+left (nameLocationCall blob name) z =
     location-refused (Cpd.number blob name) _ (rw (name-nowhere blob name (ne-eqb (Cpd.number blob name) 0 z)))
-left (namedAnswer blob name) z = tt
-left (directory blob) z = rw (ne-eqb (Cpd.directoryNumber blob) 0 z)
-left (entryLocation blob i) z =
+left (nameAnswerCall blob name) z = tt
+left (directoryCall blob) z = rw (ne-eqb (Cpd.directoryNumber blob) 0 z)
+left (entryCall blob i) z =
     location-refused (Cpd.entryNumber blob i) _ (rw (entry-nowhere blob i (ne-eqb (Cpd.entryNumber blob i) 0 z)))
-left (manifestVersion blob) z = reading-refused _ _ z
-left (hucLocation which blob) z = location-refused _ _ (huc-nowhere blob which (ne-eqb (hucNumber blob) 0 z))
-left (hucAnswer blob) z = location-refused _ _ (huc-nowhere blob Ucode (ne-eqb (hucNumber blob) 0 z)) .not-truncated
-left (hucVersion blob) z = reading-refused _ _ z
+left (manifestVersionCall blob) z = reading-refused _ _ z
+left (hucLocationCall which blob) z = location-refused _ _ (huc-nowhere blob which (ne-eqb (hucNumber blob) 0 z))
+left (hucAnswerCall blob) z = location-refused _ _ (huc-nowhere blob Ucode (ne-eqb (hucNumber blob) 0 z)) .not-truncated
+left (hucVersionCall blob) z = reading-refused _ _ z
 
 demand1 : Demand1
 unfolding openBy

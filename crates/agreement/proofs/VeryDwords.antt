@@ -15,8 +15,8 @@ use Rattle.message.specs.Header.{isMessage, totalLength, wellFormed}
 use Rattle.runs.specs.Buffer.{window}
 use Rattle.runs.proofs.Ring.{window-at, window-length}
 use Rattle.ring.specs.AtOnce.{lengthAt, messageAt, receiveBy, receiveNumber, sendBy, wholeReceive, wholeSend}
-use Rattle.ring.specs.Numbers.{firstNeeds, headerNumber, need, numberAt, receiveDecision, takeDecision}
-use Rattle.ring.specs.Ring.{head, status, tail, used}
+use Rattle.ring.specs.Numbers.{marked, need, receiveDecision, takeDecision}
+use Rattle.ring.specs.Ring.{HEAD, head, status, tail}
 use Rattle.ring.proofs.Chains.{entered-fits, entered-rest, passed, passed-rest, true-false}
 use Rattle.ring.proofs.Sent.{accepted}
 use Rattle.ring.proofs.Taken.{look-accepted, taken-has, total-low}
@@ -29,7 +29,7 @@ use Rattle.channel.proofs.Steps.{publish-long}
 use Rattle.channel.proofs.Going.{Active, going-test, receive-active, send-active}
 use Rattle.channel.proofs.SendAtOnce.{send-at-once, sendOutcome}
 use Rattle.channel.proofs.ReceiveAtOnce.{receive-at-once, receiveOutcome}
-use Rattle.agreement.specs.Carried.{Carried, DwordTaken, HandedOut, HeaderTaken, LookedAt, PublishedTail, SameBesideBuffer, SentWhole, StoredDword}
+use Rattle.agreement.specs.VeryDwords.{DwordStored, DwordTaken, HandedOut, HeaderTaken, IdleAgain, LookedAt, SameButBuffer, TailPublished, VeryDwords, WholeSent, offsetBeyond}
 
 -- a step that answers 0 has the number 0
 by-number : (c : ℕ) (x y : Outcome) → y .code ≡ c → cond (eqb c 0) x y .code ≡ 0 → c ≡ 0
@@ -39,11 +39,11 @@ by-number c x y q e =
 -- ---- a send
 
 module _ (s : State) (m d b : List ℕ) where
-  looks-at : Send.look s m d b .code ≡ 0 → LookedAt m (Send.look s m d b)
-  unfolding Send.lookBy
+  looks-at : Send.look s m d b .code ≡ 0 → LookedAt s m d b (Send.look s m d b)
+  unfolding Send.lookBy marked
   looks-at e =
       let a = accepted (idle (length b) s) (s .own) m d (length b) e in
-      record { is-message = a .is-message; len = rw e refl; copied = rw e (take-append-seam m (replicate (256 - length m) 0)) }
+      record { is-message = a .is-message; next = rw e refl; desc = rw e refl; buf = refl }
 
   whole-is : Send.whole s m d b ≡ sendOutcome s (sendBy (Send.lookNumber s m d b) (s .own) m d b)
   whole-is = send-at-once s m d b
@@ -52,14 +52,15 @@ module _ (s : State) (m d b : List ℕ) where
   unfolding sendBy
   whole-number e = sym (ap (λ (x : Outcome). x .code) whole-is) ∙ e
 
-  sends-whole : Send.whole s m d b .code ≡ 0 → SentWhole s m d b (Send.whole s m d b)
+  sends-whole : Send.whole s m d b .code ≡ 0 → WholeSent s m d b (Send.whole s m d b)
   unfolding sendBy
   sends-whole e =
       let z : Send.lookNumber s m d b ≡ 0 = whole-number e in
       record {
         is-message = accepted (idle (length b) s) (s .own) m d (length b) z .is-message;
-        buffer = ap (λ (x : Outcome). x .buf) whole-is ∙ rw z refl;
-        descriptor = ap (λ (x : Outcome). x .desc) whole-is ∙ rw z refl;
+        next = ap (λ (x : Outcome). x .next) whole-is ∙ rw z refl;
+        desc = ap (λ (x : Outcome). x .desc) whole-is ∙ rw z refl;
+        buf = ap (λ (x : Outcome). x .buf) whole-is ∙ rw z refl;
       }
 
 formed-copy : (n : ℕ) (s : State) → activeSend n s ≡ true → wellFormed (header s) (second s) ≡ true
@@ -71,49 +72,56 @@ module _ (s : State) (d b : List ℕ) where
   unfolding Send.moveBy
   move-number e = by-number (Send.moveNumber s d b) _ _ refl e
 
-  stores : Send.move s d b .code ≡ 0 → StoredDword s b (Send.move s d b)
+  stores : Send.move s d b .code ≡ 0 → DwordStored s d b (Send.move s d b)
   unfolding Send.moveBy Send.moveNumber
   stores e =
       let z = move-number e in
       let f = entered-fits (length d) (length b) (activeSend (length b) s) _ 0 refl refl refl z in
-      record { formed = formed-copy (length b) s f; len = send-active (length b) s f .agrees; buffer = rw z refl }
+      record { formed = formed-copy (length b) s f; agrees = send-active (length b) s f .agrees; next = rw z refl; desc = rw z refl; buf = rw z refl }
 
   publish-number : Send.publish s d b .code ≡ 0 → Send.publishNumber s d b ≡ 0
   unfolding Send.publishBy
   publish-number e = by-number (Send.publishNumber s d b) _ _ refl e
 
-  publishes : Send.publish s d b .code ≡ 0 → PublishedTail s d b (Send.publish s d b)
+  publishes : Send.publish s d b .code ≡ 0 → TailPublished s d b (Send.publish s d b)
   unfolding Send.publishBy Send.publishNumber
   publishes e =
       let z = publish-number e in
       let f = entered-fits (length d) (length b) (activeSend (length b) s) _ 0 refl refl refl z in
       let t : s .len ≤ s .moved = leb-true (s .len) (s .moved) (going-test (length d) (length b) (activeSend (length b) s) _ z) in
       let a = send-active (length b) s f in
-      record { formed = formed-copy (length b) s f; len = a .agrees; all-moved = omega (arith, a .within); descriptor = rw z refl; buffer = rw z refl }
+      record { formed = formed-copy (length b) s f; agrees = a .agrees; all-moved = omega (arith, a .within); next = rw z refl; desc = rw z refl; buf = rw z refl }
 
 -- ---- a receive
 
 module _ (s : State) (d b : List ℕ) where
   takes-header : Receive.look s d b .code ≡ 0 → HeaderTaken s d b (Receive.look s d b)
-  unfolding Receive.lookBy receiveDecision
+  unfolding Receive.lookBy receiveDecision marked
   takes-header e =
       let r = entered-rest (length d) (length b) (idle (length b) s) _ 0 refl refl refl e in
       let a = look-accepted (length b) (s .own) (status d) (head d) (tail d) (getD b (s .own) 0) r in
-      record { header-copied = rw e refl; len = rw e refl; there = rw e (a .whole) }
+      record { there = a .whole; next = rw e refl; desc = rw e refl; buf = refl }
 
-  takes-dword : Receive.move s d b .code ≡ 0 → DwordTaken s b (Receive.move s d b)
+  takes-dword : Receive.move s d b .code ≡ 0 → DwordTaken s d b (Receive.move s d b)
   unfolding Receive.moveBy
-  takes-dword e = let z : Receive.moveNumber s d b ≡ 0 = by-number (Receive.moveNumber s d b) _ _ refl e in rw z refl
+  takes-dword e = let z : Receive.moveNumber s d b ≡ 0 = by-number (Receive.moveNumber s d b) _ _ refl e in
+      record { next = rw z refl; desc = rw z refl; buf = rw z refl }
 
 -- a message laid at the front of an output
-handed : (m o : List ℕ) (x : Outcome) → isMessage m ≡ true → x .len ≡ length m → x .out ≡ m ++ drop (length m) o → HandedOut m o x
-handed m o x f l q =
-    record {
-      is-message = f;
-      len = l;
-      laid = rw (l, q) (take-append-seam m (drop (length m) o));
-      others = rw (l, q) (drop-append-seam m (drop (length m) o));
-    }
+module _ (s : State) (m o d b : List ℕ) (x : Outcome) where
+  handed :
+      isMessage m ≡ true → x .len ≡ length m → x .out ≡ m ++ drop (length m) o → IdleAgain s (offsetBeyond s b (length m)) (x .next)
+      → x .desc ≡ set d HEAD (offsetBeyond s b (length m)) → x .buf ≡ b → HandedOut s m o d b x
+  handed f l q next desc buf =
+      record {
+        is-message = f;
+        len = l;
+        laid = rw (l, q) (take-append-seam m (drop (length m) o));
+        rest = rw (l, q) (drop-append-seam m (drop (length m) o));
+        next = next;
+        desc = desc;
+        buf = buf;
+      }
 
 module _ (s : State) (o d b : List ℕ) where
   publish-by : (c : ℕ) → Receive.publishBy c s o d b .code ≡ 0 → c ≡ 0
@@ -145,24 +153,24 @@ module _ (s : State) (o d b : List ℕ) where
       let w : getD (take (s .len) (s .copy)) 1 0 ≡ second s = getD-take (s .len) (s .copy) 1 0 (omega arith) in
       message-i (take (s .len) (s .copy)) (l ∙ a .agrees ∙ ap totalLength (sym h)) (rw (h, w) (well-formed (header s) (second s) (publish-formed z)))
 
-  lays : length (s .copy) ≡ 256 → Receive.publish s o d b .code ≡ 0 → HandedOut (take (s .len) (s .copy)) o (Receive.publish s o d b)
+  lays : length (s .copy) ≡ 256 → Receive.publish s o d b .code ≡ 0 → HandedOut s (take (s .len) (s .copy)) o d b (Receive.publish s o d b)
   unfolding Receive.publishBy
   lays k e =
       let z : publishNumberOf s (length o) (length d) (length b) ≡ 0 = publish-by (publishNumberOf s (length o) (length d) (length b)) e in
       let l : length (take (s .len) (s .copy)) ≡ s .len = length-take-le (s .len) (s .copy) (omega (arith, publish-active z .short)) in
-      handed (take (s .len) (s .copy)) o _ (copy-is-message k z) (rw z (sym l)) (rw (z, l) refl)
+      handed s (take (s .len) (s .copy)) o d b _ (copy-is-message k z) (rw z (sym l)) (rw (z, l) refl) (rw (z, l) refl) (rw (z, l) refl) (rw z refl)
 
   -- by one number, a publish depends on the ring's length alone
-  by-length : (k : ℕ) (c : List ℕ) → length b ≡ length c → SameBesideBuffer (Receive.publishBy k s o d b) (Receive.publishBy k s o d c)
+  by-length : (k : ℕ) (c : List ℕ) → length b ≡ length c → SameButBuffer (Receive.publishBy k s o d b) (Receive.publishBy k s o d c)
   unfolding Receive.publishBy
   by-length k c q =
       cases (eqb k 0 || eqb k 13)
       (λ t. rw t (record { code = refl; len = refl; next = rw q refl; desc = rw q refl; out = refl }))
       (λ t. rw t (record { code = refl; len = refl; next = refl; desc = refl; out = refl }))
 
-  ring-unread : (c : List ℕ) → length b ≡ length c → SameBesideBuffer (Receive.publish s o d b) (Receive.publish s o d c)
+  ring-unread : (c : List ℕ) → length b ≡ length c → SameButBuffer (Receive.publish s o d b) (Receive.publish s o d c)
   ring-unread c q =
-      subst (λ (k : ℕ). SameBesideBuffer (Receive.publish s o d b) (Receive.publishBy k s o d c))
+      subst (λ (k : ℕ). SameButBuffer (Receive.publish s o d b) (Receive.publishBy k s o d c))
       (ap (publishNumberOf s (length o) (length d)) q) (by-length (publishNumberOf s (length o) (length d) (length b)) c q)
 
   -- a whole receive that is accepted
@@ -196,17 +204,20 @@ module _ (s : State) (o d b : List ℕ) where
       let h : getD (messageAt (s .own) b) 0 0 ≡ getD b (s .own) 0 = at ∙ ap (λ (i : ℕ). getD b i 0) own in
       message-i (messageAt (s .own) b) (l ∙ ap totalLength (sym h)) (rw h (well-formed _ _ (p .1)))
 
-  lays-whole : Receive.whole s o d b .code ≡ 0 → HandedOut (messageAt (s .own) b) o (Receive.whole s o d b)
+  lays-whole : Receive.whole s o d b .code ≡ 0 → HandedOut s (messageAt (s .own) b) o d b (Receive.whole s o d b)
   unfolding receiveBy
   lays-whole e =
       let z = whole-accepted e in
       let l : length (messageAt (s .own) b) ≡ lengthAt (s .own) b = window-length b (length b) (s .own) (lengthAt (s .own) b) in
-      handed (messageAt (s .own) b) o _ (pending-is-message z)
+      handed s (messageAt (s .own) b) o d b _ (pending-is-message z)
       (ap (λ (x : Outcome). x .len) whole-received ∙ rw z (sym l))
       (ap (λ (x : Outcome). x .out) whole-received ∙ rw (z, l) refl)
+      (ap (λ (x : Outcome). x .next) whole-received ∙ rw (z, l) refl)
+      (ap (λ (x : Outcome). x .desc) whole-received ∙ rw (z, l) refl)
+      (ap (λ (x : Outcome). x .buf) whole-received)
 
-pub carried : Carried
-carried =
+pub very-dwords : VeryDwords
+very-dwords =
     record {
       send-look = looks-at;
       send-move = stores;
