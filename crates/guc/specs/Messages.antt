@@ -7,7 +7,7 @@ use lib.Dec.{eqb, leb}
 use lib.ListN.{length}
 use Rattle.message.specs.Fields.{FieldValue}
 use Rattle.message.specs.Types.{typeOf, carried, ofType}
-use Rattle.message.specs.Packing.{Answer, originNumber, originOf, packAnswer, unpackAnswer}
+use Rattle.message.specs.Packing.{Answer, originNumber, originOf, packAnswer}
 use Rattle.message.specs.declared.Body.{Body}
 use Rattle.message.specs.declared.Body.the-variants.{Request, Event, Busy, Retry, Failure, Success}
 use Rattle.message.specs.declared.Message.{Message}

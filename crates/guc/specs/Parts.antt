@@ -1,7 +1,7 @@
 -- Firmware for C: an answer, a part as its number, start and length, a part copied out, and a version as a struct of numbers.
 use Prim.Native.Nat.{ℕ}
 use mathlib.Core.Bool.{Bool, cond}
-use mathlib.Core.List.{List, [], _∷_, _++_}
+use mathlib.Core.List.{List, _++_}
 use mathlib.Core.Option.{Option, none, some, Option·elim}
 use lib.Dec.{eqb, ltb}
 use lib.ListN.{length, getD, drop}

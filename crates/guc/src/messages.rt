@@ -1,6 +1,5 @@
 // Packing and unpacking for C: a message as six numbers.
 ghost use mathlib.Core.Path.{_≡_};
-ghost use mathlib.Core.Option.{some};
 ghost use Rattle.message.specs.Packing.{unpackAnswer, originOf, originNumber, packAnswer};
 ghost use Rattle.guc.specs.Messages.{bodyFor, ofTyped, spare, notPacked, packing, packedBy, saidBy, unpackedBy};
 use crate::refusal::NO_SUCH;

@@ -4,7 +4,7 @@ use mathlib.Core.Bool.{Bool, _&&_}
 use mathlib.Core.List.{List}
 use lib.ListN.{length, getD}
 use lib.Dec.{eqb, leb}
-use Rattle.message.specs.Fields.{Field, format, reserved, numDwords, fieldOf}
+use Rattle.message.specs.Fields.{format, reserved, numDwords, fieldOf}
 use Rattle.message.specs.Types.{known}
 
 -- 'Total length L = 1 + NUM_DWORDS.'

@@ -1,11 +1,11 @@
 -- Packing and unpacking (document 01, 'Messages'), and what each answers by the paper's numbers.
 use Prim.Native.Nat.{ℕ}
-use mathlib.Core.Bool.{Bool, _&&_, cond}
+use mathlib.Core.Bool.{_&&_, cond}
 use mathlib.Core.List.{List, [], _∷_}
 use mathlib.Core.Option.{Option, none, some, Option·elim}
 use lib.ListN.{getD}
 use lib.Dec.{eqb, leb}
-use Rattle.message.specs.Fields.{Field, fence, format, reserved, numDwords, origin, fieldOf, FieldValue, fit, dword}
+use Rattle.message.specs.Fields.{fence, format, reserved, numDwords, origin, fieldOf, FieldValue, fit, dword}
 use Rattle.message.specs.Types.{bodyFields, bodyOf}
 use Rattle.message.specs.Header.{isMessage}
 use Rattle.message.specs.declared.Origin.{Origin}

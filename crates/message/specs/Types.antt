@@ -4,7 +4,7 @@ use mathlib.Core.Bool.{Bool, true, false, cond}
 use mathlib.Core.List.{List, [], _∷_}
 use mathlib.Core.Option.{Option, none, some}
 use lib.Dec.{eqb}
-use Rattle.message.specs.Fields.{Field, requestData, requestAction, eventData, eventAction, busyCounter, retryReason, failureHint, failureError, successData, type, fieldOf, FieldValue}
+use Rattle.message.specs.Fields.{requestData, requestAction, eventData, eventAction, busyCounter, retryReason, failureHint, failureError, successData, type, fieldOf, FieldValue}
 use Rattle.message.specs.declared.Body.{Body}
 use Rattle.message.specs.declared.Body.the-variants.{Request, Event, Busy, Retry, Failure, Success}
 
