@@ -122,7 +122,6 @@ module _ (b : List ℕ) (z : Css.number b ≡ 0) where
         ends-at-4s = at-4s;
         no-modulus = back-unshown Modulus refl;
         no-exponent = back-unshown Exponent refl;
-        reading-code = z;
         reading = rw is-accepted refl;
       }
 

@@ -80,7 +80,6 @@ pub record ImageParts (b : List ℕ) : Type 0 where
   pub no-modulus : length b < 4 * s b → EmptyAtStart 0 (Css.located Modulus b)
   pub no-exponent : length b < 4 * s b → EmptyAtStart 0 (Css.located Exponent b)
   -- '(major 23:16, minor 15:8, patch 7:0)'
-  pub reading-code : cssReading b .number ≡ 0
   pub reading :
       cssReading b .version
       ≡ (versionDword b / 2 ^ 16 % 2 ^ 8) ∷ (versionDword b / 2 ^ 8 % 2 ^ 8) ∷ (versionDword b % 2 ^ 8) ∷ []
