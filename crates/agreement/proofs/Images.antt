@@ -15,7 +15,7 @@ use Rattle.firmware.specs.Version.{cssReading, cssVersion, reading}
 use Rattle.firmware.specs.declared.bytes.Located.{Located}
 use Rattle.firmware.specs.declared.css.Component.{Component}
 use Rattle.firmware.specs.declared.css.Component.the-variants.{Ucode, Rsa, Modulus, Exponent}
-use Rattle.firmware.proofs.Lies.{Accepted, css-accepted, css-lies, located-ends}
+use Rattle.firmware.proofs.Lies.{Accepted, css-accepted, css-lies, ends-at-4s, located-ends}
 use Rattle.firmware.proofs.Nowhere.{image-nowhere}
 use Rattle.firmware.proofs.Tests.{both}
 use Rattle.agreement.specs.Images.{At, EmptyAtStart, ImageParts, Images, IsImage, VeryBytes, e, endOf, h, k, m, s}
@@ -100,11 +100,11 @@ module _ (b : List ℕ) (z : Css.number b ≡ 0) where
       (omega arith)
 
   at-4s : 4 * s b ≤ length b → endOf (Css.located Exponent b) ≡ 4 * s b
-  unfolding Css.sizes
-  at-4s l =
-      let f = facts in
-      omega
-      (arith, f .sum, f .above, ucode-at .starts, ucode-at .size, rsa-at .starts, rsa-at .size, modulus-at l .starts, modulus-at l .size, exponent-at l .starts, exponent-at l .size)
+  unfolding Css.spanOf Css.sizes
+  at-4s l = ap endOf (exponent-shown l) ∙ last
+    where
+      last : endOf (placed 0 (Css.truncated b) (Css.spanOf Exponent (Css.sizes b))) ≡ 4 * s b
+      last = omega (arith, ends-at-4s b z)
 
   is-image : IsImage b
   unfolding Css.sizes
