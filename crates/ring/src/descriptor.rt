@@ -9,6 +9,9 @@ pub(crate) const TAIL: usize = 1;
 
 pub(crate) const STATUS: usize = 2;
 
+// 'STATUS: 0 good': compared as it is read, widened; the others are stored.
+pub(crate) const STATUS_GOOD: usize = 0;
+
 // '1 overflow (offset too large), 2 underflow (truncated), 4 mismatch (offset modified)'
 pub(crate) const STATUS_OVERFLOW: u32 = 1;
 

@@ -5,6 +5,7 @@ ghost use Rattle.ring.specs.Ring.{allowed, used};
 ghost use Rattle.ring.specs.Numbers.{need, firstNeeds, lookNeeds, sendLookNeeds};
 ghost use Rattle.ring.specs.Private.{pendingNumber, pendingBy};
 use crate::descriptor::DESCRIPTOR_DWORDS;
+use crate::descriptor::STATUS_GOOD;
 use crate::refusal;
 use runs::N_MAX;
 
@@ -56,7 +57,7 @@ fn used(n: usize, head: usize, tail: usize) -> usize
 fn look_needs(n: usize, own: usize, word: usize, status: usize, head: usize, tail: usize) -> u32
     ensures { λ r. ⌜ r ≡ lookNeeds n own word status head tail 0 ⌝ }
 {
-    if status != 0 {
+    if status != STATUS_GOOD {
         return refusal::BROKEN;
     }
     if n <= head {
