@@ -150,14 +150,16 @@ enum guc_state_word {
 	GUC_STATE_COPY = 4   /* own copy of the message, 256 dwords */
 };
 
-/* HXG types; 2 and 4 are unknown. */
+/* HXG types; only 4 is unknown. A fast request is laid out as a request and wants
+ * no success reply (Linux: GUC_HXG_TYPE_FAST_REQUEST). */
 enum guc_type {
-	GUC_TYPE_REQUEST = 0, /* first: data 27:16, second: action 15:0 */
-	GUC_TYPE_EVENT = 1,   /* first: data 27:16, second: action 15:0 */
-	GUC_TYPE_BUSY = 3,    /* first: counter 27:0 */
-	GUC_TYPE_RETRY = 5,   /* first: reason 27:0 */
-	GUC_TYPE_FAILURE = 6, /* first: hint 27:16, second: error 15:0 */
-	GUC_TYPE_SUCCESS = 7  /* first: data 27:0 */
+	GUC_TYPE_REQUEST = 0,      /* first: data 27:16, second: action 15:0 */
+	GUC_TYPE_EVENT = 1,        /* first: data 27:16, second: action 15:0 */
+	GUC_TYPE_FAST_REQUEST = 2, /* first: data 27:16, second: action 15:0 */
+	GUC_TYPE_BUSY = 3,         /* first: counter 27:0 */
+	GUC_TYPE_RETRY = 5,        /* first: reason 27:0 */
+	GUC_TYPE_FAILURE = 6,      /* first: hint 27:16, second: error 15:0 */
+	GUC_TYPE_SUCCESS = 7       /* first: data 27:0 */
 };
 
 enum guc_origin {
