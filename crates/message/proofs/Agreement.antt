@@ -1,29 +1,28 @@
 -- Messages agree with the tables: unpacking reads exactly the table's fields, and packing and unpacking undo each other, for every type
 -- at once. Assumes nothing.
-use Prim.Native.Nat.{ℕ, _+_, _*_, _%_, _≤_, _<_, _^_}
-use mathlib.Core.Path.{_≡_, refl, sym, ap, _∙_, subst}
-use mathlib.Core.Logic.{_↔_}
+use Prim.Native.Nat.{ℕ, _+_, _≤_, _<_, _^_}
+use mathlib.Core.Path.{_≡_, refl, ap, _∙_, subst}
 use mathlib.Core.Bool.{Bool, true, false, _&&_, cond}
-use mathlib.Core.List.{List, [], _∷_}
+use mathlib.Core.List.{List, _∷_}
 use mathlib.Core.Option.{Option, none, some}
 use native.Mathlib.Omega.{arith}
 use native.Mathlib.Nat.{mod-eq-of-lt, zero-mul, zero-add}
 use lib.ListN.{length, getD}
-use lib.Dec.{eqb, leb, ltb}
+use lib.Dec.{eqb, leb}
 use borrow.Author.Tests.{eqb-true, eqb-false, leb-true, eq-eqb, le-leb}
-use Rattle.message.specs.Fields.{Field, fence, format, reserved, numDwords, origin, fieldOf, FieldValue, fit, dword, holds}
-use Rattle.message.specs.Types.{bodyFields, bodyOf, known, someBody}
-use Rattle.message.specs.Header.{totalLength, isMessage}
+use Rattle.message.specs.Fields.{fence, numDwords, origin, fieldOf, FieldValue, fit, dword, holds}
+use Rattle.message.specs.Types.{bodyOf, known}
+use Rattle.message.specs.Header.{isMessage}
 use Rattle.message.specs.Packing.{originNumber, originOf, decoded, unpack, headerFields, hxgFields, pack, refusing}
 use Rattle.message.specs.Agreement.{Agreement}
 use Rattle.message.specs.declared.Origin.{Origin}
 use Rattle.message.specs.declared.Origin.the-variants.{Host, Guc}
 use Rattle.message.specs.declared.Body.{Body}
 use Rattle.message.specs.declared.Message.{Message}
-use Rattle.message.proofs.Tests.{and-l, and-r, and-i}
+use Rattle.message.proofs.Tests.{and-l, and-r}
 use Rattle.message.proofs.Tiling.{tiles, holds-first, holds-rest, holds-fit, dword-lt, dword-holds, dword-again}
-use Rattle.message.proofs.Types.{known-is, known-body, body-known, body-holds, holds-body}
-use Rattle.message.proofs.Formed.{WellFormed, message-length, message-well, message-i}
+use Rattle.message.proofs.Types.{type-4-unknown, others-known, known-body, body-known, body-holds, holds-body}
+use Rattle.message.proofs.Formed.{WellFormed, message-well, message-i}
 use Rattle.message.proofs.PackLaws.{header-tiles, hxg-tiles, unpack-some, unpack-none}
 
 -- the origin's bit, there and back
@@ -192,8 +191,7 @@ agreement =
     record {
       packing-answers = λ m. answers 14 (pack m);
       unpacking-answers = λ d. answers 4 (unpack d);
-      unknown-2 = λ w e. simp (known-is, e);
-      unknown-4 = λ w e. simp (known-is, e);
+      only-4-unknown = λ w. (type-4-unknown w, others-known w);
       accepts =
           λ d e. let k = known-body (getD d 1 0) (message-well d e .known-type) in
           (decoded (getD d 0 0) (getD d 1 0) (k .0), unpack-some d (k .0) e (k .1));

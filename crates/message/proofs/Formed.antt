@@ -1,13 +1,13 @@
 -- What a well-formed header and a whole message have. Assumes nothing.
-use Prim.Native.Nat.{ℕ, _+_, _≤_}
+use Prim.Native.Nat.{ℕ, _≤_}
 use mathlib.Core.Path.{_≡_}
-use mathlib.Core.Bool.{Bool, true, _&&_}
+use mathlib.Core.Bool.{true}
 use mathlib.Core.List.{List}
 use native.Mathlib.Omega.{arith}
 use lib.ListN.{length, getD}
-use lib.Dec.{eqb, leb}
+use lib.Dec.{eqb}
 use borrow.Author.Tests.{eqb-true, leb-true, eq-eqb, le-leb}
-use Rattle.message.specs.Fields.{Field, format, reserved, numDwords, fieldOf}
+use Rattle.message.specs.Fields.{format, reserved, numDwords, fieldOf}
 use Rattle.message.specs.Types.{known}
 use Rattle.message.specs.Header.{totalLength, wellFormed, isMessage}
 use Rattle.message.proofs.Tests.{and-l, and-r, and-i}

@@ -1,5 +1,5 @@
 -- Laws about packing and unpacking that the code's proofs cite. Assumes nothing.
-use Prim.Native.Nat.{ℕ, _+_, _*_, _<_}
+use Prim.Native.Nat.{ℕ, _+_, _*_}
 use mathlib.Core.Path.{_≡_, refl}
 use mathlib.Core.Bool.{Bool, true, false, _&&_, cond}
 use mathlib.Core.List.{List}
@@ -14,7 +14,7 @@ use Rattle.message.specs.Packing.{originNumber, headerFields, hxgFields,
 use Rattle.message.specs.declared.Origin.{Origin}
 use Rattle.message.specs.declared.Origin.the-variants.{Host, Guc}
 use Rattle.message.specs.declared.Body.{Body}
-use Rattle.message.specs.declared.Body.the-variants.{Request, Event, Busy, Retry, Failure, Success}
+use Rattle.message.specs.declared.Body.the-variants.{Request, Event, FastRequest, Busy, Retry, Failure, Success}
 use Rattle.message.specs.declared.Message.{Message}
 use Rattle.message.proofs.Tiling.{tiles}
 
@@ -37,6 +37,7 @@ pub body-tiles : (b : Body) → tiles 31 (bodyFields b) ≡ true
 unfolding bodyFields carried tiles
 body-tiles (Request d a) = refl
 body-tiles (Event d a) = refl
+body-tiles (FastRequest d a) = refl
 body-tiles (Busy c) = refl
 body-tiles (Retry r) = refl
 body-tiles (Failure h e) = refl

@@ -1,7 +1,7 @@
 -- Laws about tests that hold: what a conjunction and a choice say. Assumes nothing.
 use Prim.Native.Nat.{ℕ}
 use mathlib.Core.Path.{_≡_, refl}
-use mathlib.Core.Bool.{Bool, true, false, _&&_, _||_}
+use mathlib.Core.Bool.{Bool, true, false, _&&_}
 use native.Mathlib.Omega.{arith}
 
 pub and-l : (a b : Bool) → (a && b) ≡ true → a ≡ true
@@ -14,10 +14,6 @@ and-r false b e = let z : _≡_ {A = ℕ} 0 1 = cc in absurd (omega arith)
 
 pub and-i : (a b : Bool) → a ≡ true → b ≡ true → (a && b) ≡ true
 and-i a b e f = rw (e, f)
-
-pub or-assoc : (a b c : Bool) → ((a || b) || c) ≡ (a || (b || c))
-or-assoc true b c = refl
-or-assoc false b c = refl
 
 pub and-true : (a : Bool) → (a && true) ≡ a
 and-true true = refl

@@ -1,45 +1,48 @@
 -- Laws about the types of HXG messages. Assumes nothing.
-use Prim.Native.Nat.{ℕ}
+use Prim.Native.Nat.{ℕ, _+_, _≤_}
 use mathlib.Core.Path.{_≡_, refl, subst}
-use mathlib.Core.Bool.{Bool, true, false, _&&_, _||_, cond}
+use mathlib.Core.Bool.{Bool, true, false, _&&_, cond}
 use mathlib.Core.List.{List, [], _∷_}
 use mathlib.Core.Option.{Option, none, some}
 use native.Mathlib.Omega.{arith}
 use lib.Dec.{eqb}
-use borrow.Author.Tests.{ne-eqb, eq-eqb, eqb-true}
-use Rattle.message.specs.Fields.{Field, requestData, requestAction, eventData, eventAction, busyCounter, retryReason, failureHint, failureError, successData, type, fieldOf, FieldValue, holds}
+use borrow.Author.Tests.{eq-eqb, eqb-true, eqb-false}
+use Rattle.message.specs.Fields.{Field, type, fieldOf, FieldValue, holds}
 use Rattle.message.specs.Types.{typeOf, carried, bodyFields, bodies, ofType, bodyOf, someBody, known}
 use Rattle.message.specs.declared.Body.{Body}
-use Rattle.message.specs.declared.Body.the-variants.{Request, Event, Busy, Retry, Failure, Success}
-use Rattle.message.proofs.Tests.{and-l, and-r, and-i}
+use Rattle.message.specs.declared.Body.the-variants.{Request, Event, FastRequest, Busy, Retry, Failure, Success}
+use Rattle.message.proofs.Tests.{and-l, and-r, and-i, cases}
 use Rattle.message.proofs.Tiling.{holds-first, holds-rest}
 
--- one of a list has the type where the first has it or one of the rest does
-or-else : (t : Bool) (b : Body) (o : Option Body) → someBody (cond t (some b) o) ≡ (t || someBody o)
-unfolding someBody
-or-else true b o = refl
-or-else false b o = refl
+-- by the type of a dword, which is one of eight
+next : {P : Type 0} (t k : ℕ) → k ≤ t → (t ≡ k → P) → (k + 1 ≤ t → P) → P
+next t k l p q = cases (eqb t k) (λ e. p (eqb-true t k e)) (λ e. q (omega (arith, eqb-false t k e)))
 
-or-none : (t : Bool) → (t || someBody none) ≡ t
-unfolding someBody
-or-none true = refl
-or-none false = refl
+pub by-type :
+    {P : Type 0} (word : ℕ) → (fieldOf type word ≡ 0 → P) → (fieldOf type word ≡ 1 → P) → (fieldOf type word ≡ 2 → P) → (fieldOf type word ≡ 3 → P)
+    → (fieldOf type word ≡ 4 → P) → (fieldOf type word ≡ 5 → P) → (fieldOf type word ≡ 6 → P) → (fieldOf type word ≡ 7 → P) → P
+by-type word p0 p1 p2 p3 p4 p5 p6 p7 =
+    let t = fieldOf type word in
+    next t 0 (omega arith) p0
+    (λ l. next t 1 l p1 (λ l. next t 2 l p2 (λ l. next t 3 l p3 (λ l. next t 4 l p4 (λ l. next t 5 l p5 (λ l. next t 6 l p6 (λ l. p7 (omega (arith, l)))))))))
 
--- the known types, as a chain of tests
-pub known-is :
-    (word : ℕ)
-    → known word
-    ≡ (eqb (fieldOf type word) 0
-    || (eqb (fieldOf type word) 1 || (eqb (fieldOf type word) 3 || (eqb (fieldOf type word) 5 || (eqb (fieldOf type word) 6 || eqb (fieldOf type word) 7)))))
-unfolding known bodyOf bodies ofType typeOf
-known-is word = simp (or-else, or-none)
+-- type 4 is unknown, and each other is known
+pub type-4-unknown : (word : ℕ) → known word ≡ true → fieldOf type word ≡ 4 → ⊥
+unfolding known bodyOf bodies ofType typeOf someBody
+type-4-unknown word k e = let z : false ≡ true = simp e at k in let y : _≡_ {A = ℕ} 0 1 = cc in omega arith
+
+pub others-known : (word : ℕ) → (fieldOf type word ≡ 4 → ⊥) → known word ≡ true
+unfolding known bodyOf bodies ofType typeOf someBody
+others-known word n =
+    by-type word (λ e. simp e) (λ e. simp e) (λ e. simp e) (λ e. simp e) (λ e. absurd (n e)) (λ e. simp e) (λ e. simp e) (λ e. simp e)
 
 -- the type that is left where the others are ruled out
 pub else-success :
-    (word : ℕ) → known word ≡ true → (fieldOf type word ≡ 0 → ⊥) → (fieldOf type word ≡ 1 → ⊥) → (fieldOf type word ≡ 3 → ⊥)
-    → (fieldOf type word ≡ 5 → ⊥) → (fieldOf type word ≡ 6 → ⊥) → fieldOf type word ≡ 7
-else-success word k n0 n1 n3 n5 n6 =
-    eqb-true _ _ (simp (known-is, ne-eqb _ _ n0, ne-eqb _ _ n1, ne-eqb _ _ n3, ne-eqb _ _ n5, ne-eqb _ _ n6) at k)
+    (word : ℕ) → known word ≡ true → (fieldOf type word ≡ 0 → ⊥) → (fieldOf type word ≡ 1 → ⊥) → (fieldOf type word ≡ 2 → ⊥)
+    → (fieldOf type word ≡ 3 → ⊥) → (fieldOf type word ≡ 5 → ⊥) → (fieldOf type word ≡ 6 → ⊥) → fieldOf type word ≡ 7
+else-success word k n0 n1 n2 n3 n5 n6 =
+    by-type word (λ e. absurd (n0 e)) (λ e. absurd (n1 e)) (λ e. absurd (n2 e)) (λ e. absurd (n3 e)) (λ e. absurd (type-4-unknown word k e))
+    (λ e. absurd (n5 e)) (λ e. absurd (n6 e)) (λ e. e)
 
 -- a dword of a known type holds a body, and no other does
 pub body-known : (word : ℕ) (b : Body) → bodyOf word ≡ some b → known word ≡ true
@@ -98,6 +101,7 @@ pub holds-body : (word : ℕ) (b : Body) → holds (bodyFields b) word ≡ true 
 unfolding bodyFields typeOf carried bodyOf bodies ofType
 holds-body word (Request d a) h = simp (is-type _ _ _ _ _ h, is-first _ _ _ _ _ h, holds-first _ _ word (is-more _ _ _ _ _ h))
 holds-body word (Event d a) h = simp (is-type _ _ _ _ _ h, is-first _ _ _ _ _ h, holds-first _ _ word (is-more _ _ _ _ _ h))
+holds-body word (FastRequest d a) h = simp (is-type _ _ _ _ _ h, is-first _ _ _ _ _ h, holds-first _ _ word (is-more _ _ _ _ _ h))
 holds-body word (Busy c) h = simp (is-type _ _ _ _ _ h, is-first _ _ _ _ _ h)
 holds-body word (Retry r) h = simp (is-type _ _ _ _ _ h, is-first _ _ _ _ _ h)
 holds-body word (Failure f e) h = simp (is-type _ _ _ _ _ h, is-first _ _ _ _ _ h, holds-first _ _ word (is-more _ _ _ _ _ h))

@@ -16,9 +16,8 @@ pub record Agreement : Type 0 where
   -- what the calls answer, beside their number, is this
   pub packing-answers : (m : Message) → packAnswer m .value ≡ pack m
   pub unpacking-answers : (d : List ℕ) → unpackAnswer d .value ≡ unpack d
-  -- 'Types 2 and 4 are unknown.'
-  pub unknown-2 : (w : ℕ) → fieldOf type w ≡ 2 → known w ≡ false
-  pub unknown-4 : (w : ℕ) → fieldOf type w ≡ 4 → known w ≡ false
+  -- 'only type 4 stays unknown': the type of a dword is known exactly when it is not 4
+  pub only-4-unknown : (w : ℕ) → (known w ≡ true) ↔ (fieldOf type w ≡ 4 → ⊥)
   -- 'Unpacking takes a whole message and refuses a malformed one'
   pub accepts : (d : List ℕ) → isMessage d ≡ true → (m : Message) × (unpack d ≡ some m)
   pub refuses : (d : List ℕ) → isMessage d ≡ false → unpack d ≡ none

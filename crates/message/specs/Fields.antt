@@ -16,6 +16,8 @@ pub data Field : Type 0 where
   requestAction : Field
   eventData : Field
   eventAction : Field
+  fastRequestData : Field
+  fastRequestAction : Field
   busyCounter : Field
   retryReason : Field
   failureHint : Field
@@ -46,6 +48,9 @@ bitsOf requestAction = bits 15 0
 -- event: 'data 27:16, action 15:0'
 bitsOf eventData = bits 27 16
 bitsOf eventAction = bits 15 0
+-- fast request: 'laid out as a request' (document 02)
+bitsOf fastRequestData = bits 27 16
+bitsOf fastRequestAction = bits 15 0
 -- busy: 'counter 27:0'
 bitsOf busyCounter = bits 27 0
 -- retry: 'reason 27:0'

@@ -25,7 +25,7 @@ originNumber Guc = 1
 unfoldable pub originOf : ℕ → Origin
 originOf bit = cond (eqb bit 0) Host Guc
 
--- 'Unpacked, a decoded message holds its origin, its fence and one of six bodies, beside its NUM_DWORDS'
+-- 'Unpacked, a decoded message holds its origin, its fence and one of' the seven bodies, 'beside its NUM_DWORDS'
 unfoldable pub decoded : ℕ → ℕ → Body → Message
 decoded header word b = record { origin = originOf (fieldOf origin word); fence = fieldOf fence header; «num_dwords» = fieldOf numDwords header; body = b }
 

@@ -1,17 +1,20 @@
--- The types of HXG messages (document 01, 'Messages'): the number of each, its fields, and which types are known.
+-- The types of HXG messages (document 01, 'Messages'): the number of each, its fields, and which types are known. Document 02 (T-02)
+-- corrects document 01 here: 'The current public HXG header lists type 2, a fast request, which wants no success reply and is laid out as a
+-- request.' Linux names it GUC_HXG_TYPE_FAST_REQUEST. The type says nothing to the channel: who wants which reply is a caller's matter.
 use Prim.Native.Nat.{ℕ}
 use mathlib.Core.Bool.{Bool, true, false, cond}
 use mathlib.Core.List.{List, [], _∷_}
 use mathlib.Core.Option.{Option, none, some}
 use lib.Dec.{eqb}
-use Rattle.message.specs.Fields.{requestData, requestAction, eventData, eventAction, busyCounter, retryReason, failureHint, failureError, successData, type, fieldOf, FieldValue}
+use Rattle.message.specs.Fields.{requestData, requestAction, eventData, eventAction, fastRequestData, fastRequestAction, busyCounter, retryReason, failureHint, failureError, successData, type, fieldOf, FieldValue}
 use Rattle.message.specs.declared.Body.{Body}
-use Rattle.message.specs.declared.Body.the-variants.{Request, Event, Busy, Retry, Failure, Success}
+use Rattle.message.specs.declared.Body.the-variants.{Request, Event, FastRequest, Busy, Retry, Failure, Success}
 
--- the columns 'Type' and 'Meaning' of the table: 0 request, 1 event, 3 busy, 5 retry, 6 failure, 7 success
+-- the columns 'Type' and 'Meaning' of the table: 0 request, 1 event, 2 fast request, 3 busy, 5 retry, 6 failure, 7 success
 unfoldable pub typeOf : Body → ℕ
 typeOf (Request d a) = 0
 typeOf (Event d a) = 1
+typeOf (FastRequest d a) = 2
 typeOf (Busy c) = 3
 typeOf (Retry r) = 5
 typeOf (Failure h e) = 6
@@ -21,6 +24,7 @@ typeOf (Success d) = 7
 unfoldable pub carried : Body → List FieldValue
 carried (Request d a) = (requestData, d) ∷ (requestAction, a) ∷ []
 carried (Event d a) = (eventData, d) ∷ (eventAction, a) ∷ []
+carried (FastRequest d a) = (fastRequestData, d) ∷ (fastRequestAction, a) ∷ []
 carried (Busy c) = (busyCounter, c) ∷ []
 carried (Retry r) = (retryReason, r) ∷ []
 carried (Failure h e) = (failureHint, h) ∷ (failureError, e) ∷ []
@@ -35,6 +39,7 @@ unfoldable pub bodies : ℕ → List Body
 bodies word =
     Request (fieldOf requestData word) (fieldOf requestAction word)
     ∷ Event (fieldOf eventData word) (fieldOf eventAction word)
+    ∷ FastRequest (fieldOf fastRequestData word) (fieldOf fastRequestAction word)
     ∷ Busy (fieldOf busyCounter word)
     ∷ Retry (fieldOf retryReason word)
     ∷ Failure (fieldOf failureHint word) (fieldOf failureError word)
@@ -46,7 +51,7 @@ unfoldable pub ofType : ℕ → List Body → Option Body
 ofType t [] = none
 ofType t (b ∷ bs) = cond (eqb t (typeOf b)) (some b) (ofType t bs)
 
--- the body that an HXG dword 0 holds, or none: 'Types 2 and 4 are unknown.'
+-- the body that an HXG dword 0 holds, or none: 'only type 4 stays unknown'
 unfoldable pub bodyOf : ℕ → Option Body
 bodyOf word = ofType (fieldOf type word) (bodies word)
 

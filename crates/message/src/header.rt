@@ -32,10 +32,12 @@ pub fn total_length(header: u32) -> usize
     1 + num_dwords(header) as usize
 }
 
-// The columns 'Type' and 'Meaning' of document 01's table of HXG types. 'Types 2 and 4 are unknown.'
+// The columns 'Type' and 'Meaning' of the table of HXG types, with document 02's fast request.
 pub const TYPE_REQUEST: u32 = 0;
 
 pub const TYPE_EVENT: u32 = 1;
+
+pub const TYPE_FAST_REQUEST: u32 = 2;
 
 pub const TYPE_BUSY: u32 = 3;
 
@@ -44,6 +46,9 @@ pub const TYPE_RETRY: u32 = 5;
 pub const TYPE_FAILURE: u32 = 6;
 
 pub const TYPE_SUCCESS: u32 = 7;
+
+// 'only type 4 stays unknown'
+const TYPE_UNKNOWN: u32 = 4;
 
 // The type in an HXG dword 0.
 pub fn hxg_type(word: u32) -> u32
@@ -57,12 +62,7 @@ fn known_type(word: u32) -> bool
     ensures { λ r. ⌜ r ≡ known word ⌝ }
 {
     let t = hxg_type(word);
-    (t == TYPE_REQUEST)
-        | (t == TYPE_EVENT)
-        | (t == TYPE_BUSY)
-        | (t == TYPE_RETRY)
-        | (t == TYPE_FAILURE)
-        | (t == TYPE_SUCCESS)
+    t != TYPE_UNKNOWN
 }
 
 // Whether a header and an HXG dword 0 start a well-formed message.

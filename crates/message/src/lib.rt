@@ -7,6 +7,7 @@ pub use header::MESSAGE_MAX;
 pub use header::TYPE_BUSY;
 pub use header::TYPE_EVENT;
 pub use header::TYPE_FAILURE;
+pub use header::TYPE_FAST_REQUEST;
 pub use header::TYPE_REQUEST;
 pub use header::TYPE_RETRY;
 pub use header::TYPE_SUCCESS;
@@ -27,6 +28,7 @@ pub enum Origin {
 pub enum Body {
     Request { data: u32, action: u32 },
     Event { data: u32, action: u32 },
+    FastRequest { data: u32, action: u32 },
     Busy { counter: u32 },
     Retry { reason: u32 },
     Failure { hint: u32, error: u32 },

@@ -13,6 +13,7 @@ use crate::Packed;
 use crate::header::TYPE_BUSY;
 use crate::header::TYPE_EVENT;
 use crate::header::TYPE_FAILURE;
+use crate::header::TYPE_FAST_REQUEST;
 use crate::header::TYPE_REQUEST;
 use crate::header::TYPE_RETRY;
 use crate::header::TYPE_SUCCESS;
@@ -58,6 +59,7 @@ fn body_bits(b: Body) -> Placed
     match b {
         Body::Request { data, action } => two_fields(TYPE_REQUEST, data, action),
         Body::Event { data, action } => two_fields(TYPE_EVENT, data, action),
+        Body::FastRequest { data, action } => two_fields(TYPE_FAST_REQUEST, data, action),
         Body::Busy { counter } => one_field(TYPE_BUSY, counter),
         Body::Retry { reason } => one_field(TYPE_RETRY, reason),
         Body::Failure { hint, error } => two_fields(TYPE_FAILURE, hint, error),

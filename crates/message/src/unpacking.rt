@@ -12,6 +12,7 @@ use crate::Unpacked;
 use crate::header::TYPE_BUSY;
 use crate::header::TYPE_EVENT;
 use crate::header::TYPE_FAILURE;
+use crate::header::TYPE_FAST_REQUEST;
 use crate::header::TYPE_REQUEST;
 use crate::header::TYPE_RETRY;
 use crate::header::dword_at;
@@ -45,6 +46,10 @@ fn body(word: u32) -> Body
             action: lower,
         },
         TYPE_EVENT => Body::Event {
+            data: upper,
+            action: lower,
+        },
+        TYPE_FAST_REQUEST => Body::FastRequest {
             data: upper,
             action: lower,
         },

@@ -1,12 +1,16 @@
--- `header::known_type` meets its contract: the chain of tests is what the table of types says. Assumes nothing.
+-- `header::known_type` meets its contract, type by type: the test is what the table of types says. Assumes nothing.
 use borrow.Author.Needs.{needs}
-use Rattle.message.proofs.Tests.{or-assoc}
-use Rattle.message.proofs.Types.{known-is}
+use Rattle.message.specs.Types.{typeOf, bodies, ofType, bodyOf, someBody, known}
+use Rattle.message.proofs.Types.{by-type}
 use Rattle.message.proofs.header.known_type.Statement.{statement}
 use Rattle.message.proofs.header.known_type.Tie as tie
 
 returns : tie.Need-returns
-returns c = simp (c .hxg-type .ensures, known-is, or-assoc)
+unfolding known bodyOf bodies ofType typeOf someBody
+returns c =
+    let t = c .hxg-type .ensures in
+    by-type (c .before .args .word) (λ e. simp (t, e)) (λ e. simp (t, e)) (λ e. simp (t, e)) (λ e. simp (t, e)) (λ e. simp (t, e)) (λ e. simp (t, e))
+    (λ e. simp (t, e)) (λ e. simp (t, e))
 
 pub known-type-spec : {M : Type 1} → statement M
 known-type-spec = tie.close (tie.spec (λ c κs. search needs) returns)

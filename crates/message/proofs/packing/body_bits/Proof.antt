@@ -19,19 +19,23 @@ returns-2 c = simp (c .before .before .b2 .given .1, c .two-fields2 .ensures, ti
 
 returns-3 : tie.Need-returns-3
 unfolding bodyFields typeOf carried fit dword
-returns-3 c = simp (c .before .before .b3 .given .1, c .one-field .ensures, tidy)
+returns-3 c = simp (c .before .before .b3 .given .1, c .two-fields3 .ensures, tidy)
 
 returns-4 : tie.Need-returns-4
 unfolding bodyFields typeOf carried fit dword
-returns-4 c = simp (c .before .before .b4 .given .1, c .one-field2 .ensures, tidy)
+returns-4 c = simp (c .before .before .b4 .given .1, c .one-field .ensures, tidy)
 
 returns-5 : tie.Need-returns-5
 unfolding bodyFields typeOf carried fit dword
-returns-5 c = simp (c .before .before .b5 .given .1, c .two-fields3 .ensures, tidy)
+returns-5 c = simp (c .before .before .b5 .given .1, c .one-field2 .ensures, tidy)
 
 returns-6 : tie.Need-returns-6
 unfolding bodyFields typeOf carried fit dword
-returns-6 c = simp (c .before .before .b6 .given .1, c .one-field3 .ensures, tidy)
+returns-6 c = simp (c .before .before .b6 .given .1, c .two-fields4 .ensures, tidy)
+
+returns-7 : tie.Need-returns-7
+unfolding bodyFields typeOf carried fit dword
+returns-7 c = simp (c .before .before .b7 .given .1, c .one-field3 .ensures, tidy)
 
 pub body-bits-spec : {M : Type 1} → statement M
 body-bits-spec =
@@ -49,9 +53,12 @@ body-bits-spec =
     (λ c κs. search needs)
     (λ c. search needs)
     (λ c κs. search needs)
+    (λ c. search needs)
+    (λ c κs. search needs)
     returns
     returns-2
     returns-3
     returns-4
     returns-5
-    returns-6)
+    returns-6
+    returns-7)

@@ -1,7 +1,7 @@
 -- `packing::pack` meets its contract: the tests are those of `pack-is`, and the sums fit since the fields lie side by side.
 -- Assumes nothing.
-use Prim.Native.Nat.{ℕ, _<_, _^_}
-use mathlib.Core.Path.{_≡_, refl, sym, _∙_, subst}
+use Prim.Native.Nat.{ℕ, _<_}
+use mathlib.Core.Path.{_≡_, refl, sym, _∙_}
 use mathlib.Core.Bool.{Bool, true, false, _&&_, cond}
 use native.Mathlib.Omega.{arith}
 use lib.Dec.{ltb, leb}
@@ -10,7 +10,6 @@ use borrow.Author.Tests.{ltb-true}
 use Rattle.message.specs.Fields.{fit, dword}
 use Rattle.message.specs.Types.{bodyFields}
 use Rattle.message.specs.Packing.{refusing, ofPacked, originNumber}
-use Rattle.message.specs.declared.packing.Placed.{Placed}
 use Rattle.message.specs.declared.packing.Placed.the-variants.{TooWide, Bits}
 use Rattle.message.proofs.Tests.{and-l, and-r, and-false}
 use Rattle.message.proofs.Tiling.{dword-lt}

@@ -30,15 +30,19 @@ returns-5 c = simp (← c .before .hxg-type .ensures, c .match .keys5, div-one)
 
 returns-6 : tie.Need-returns-6
 unfolding bodyOf bodies ofType typeOf
-returns-6 c =
+returns-6 c = simp (← c .before .hxg-type .ensures, c .match .keys6, div-one)
+
+returns-7 : tie.Need-returns-7
+unfolding bodyOf bodies ofType typeOf
+returns-7 c =
     let t = c .before .hxg-type .ensures in
     let n = c .match .rest in
     let e =
-    else-success (c .before .before .args .word) (c .before .before .pre) (λ z. n .0 .0 .0 .0 .1 (t ∙ z)) (λ z. n .0 .0 .0 .1 (t ∙ z)) (λ z. n .0 .0 .1 (t ∙ z))
-    (λ z. n .0 .1 (t ∙ z)) (λ z. n .1 (t ∙ z)) in
+    else-success (c .before .before .args .word) (c .before .before .pre) (λ z. n .0 .0 .0 .0 .0 .1 (t ∙ z)) (λ z. n .0 .0 .0 .0 .1 (t ∙ z))
+    (λ z. n .0 .0 .0 .1 (t ∙ z)) (λ z. n .0 .0 .1 (t ∙ z)) (λ z. n .0 .1 (t ∙ z)) (λ z. n .1 (t ∙ z)) in
     simp (e, div-one)
 
 pub body-spec : {M : Type 1} → statement M
 body-spec =
     tie.close
-    (tie.spec (λ c κs. search needs) returns returns-2 returns-3 returns-4 returns-5 returns-6)
+    (tie.spec (λ c κs. search needs) returns returns-2 returns-3 returns-4 returns-5 returns-6 returns-7)

@@ -1,5 +1,4 @@
 -- `unpacking::origin_of` meets its contract: the bit says which origin it is. Assumes nothing.
-use borrow.Author.Needs.{needs}
 use borrow.Author.Tests.{eq-eqb, ne-eqb}
 use Rattle.message.specs.Packing.{originOf}
 use Rattle.message.proofs.unpacking.origin_of.Statement.{statement}
