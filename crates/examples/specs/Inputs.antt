@@ -22,6 +22,10 @@ countUp i (suc n) = i ∷ countUp (suc i) n
 unfoldable pub dwords : ℕ → List ℕ
 dwords l = (0x12340000 + (l - 1)) ∷ 0x00000000 ∷ countUp 2 (l - 2)
 
+-- a message of two dwords by its HXG word
+abbrev pub twoDwords : ℕ → List ℕ
+twoDwords word = 0x12340001 ∷ word ∷ []
+
 -- ---- the channel, at N = 1,024
 
 -- a descriptor by its HEAD, TAIL and STATUS; its reserved words are not 0
@@ -35,9 +39,12 @@ untouched n = replicate n 0xBBBBBBBB
 unfoldable pub buffer : List ℕ
 buffer = untouched 1024
 
--- the same with a header at place 8
+-- the same with some dwords from place 8 on, and with a header alone
+unfoldable pub bufferOf : List ℕ → List ℕ
+bufferOf some = untouched 8 ++ some ++ untouched (1016 - length some)
+
 unfoldable pub bufferWith : ℕ → List ℕ
-bufferWith header = untouched 8 ++ (header ∷ untouched 1015)
+bufferWith header = bufferOf (header ∷ [])
 
 -- ---- firmware
 

@@ -8,7 +8,7 @@ use lib.ListN.{length, take, replicate}
 use Rattle.message.specs.Packing.{Answer, packAnswer, unpackAnswer}
 use Rattle.message.specs.declared.Message.{Message}
 use Rattle.message.specs.declared.Origin.the-variants.{Host, Guc}
-use Rattle.message.specs.declared.Body.the-variants.{Request, Failure, Success}
+use Rattle.message.specs.declared.Body.the-variants.{Request, Event, FastRequest, Busy, Retry, Failure, Success}
 use Rattle.ring.specs.Ring.{head, tail, free}
 use Rattle.channel.specs.State.{State, state, idleAt}
 use Rattle.channel.specs.Outcome.{Outcome, refused}
@@ -22,11 +22,11 @@ use Rattle.firmware.specs.Inside.{hucName}
 use Rattle.firmware.specs.declared.css.Component.{Component}
 use Rattle.firmware.specs.declared.css.Component.the-variants.{Ucode, Rsa, Modulus, Exponent}
 use Rattle.examples.specs.Example.{Example, _is_, Each}
-use Rattle.examples.specs.Inputs.{message, countUp, dwords, descriptorWith, untouched, buffer, bufferWith, image, directory}
+use Rattle.examples.specs.Inputs.{message, countUp, dwords, twoDwords, descriptorWith, untouched, buffer, bufferOf, bufferWith, image, directory}
 
 -- ---- how a row says an answer
 
--- packed: 0 with the two dwords; unpacked: 0 with the message; not packed: a number with no dword
+-- packed: 0 with the two dwords; unpacked: 0 with the message; refused: a number with no dword, or with no message
 abbrev pub packed : ℕ → ℕ → Answer (ℕ × ℕ)
 packed header word = record { number = 0; value = some (header, word) }
 
@@ -36,9 +36,16 @@ unpacked m = record { number = 0; value = some m }
 abbrev pub refusedPack : ℕ → Answer (ℕ × ℕ)
 refusedPack n = record { number = n; value = none }
 
+abbrev pub refusedUnpack : ℕ → Answer Message
+refusedUnpack n = record { number = n; value = none }
+
 -- 0 with the next state, the descriptor and the buffer; `refused` of the channel is a number with those three
 abbrev pub accepted : State → List ℕ → List ℕ → Outcome
 accepted s d b = record { code = 0; len = 0; next = s; desc = d; buf = b; out = [] }
+
+-- a whole receive's number and L, with the next state, the descriptor, the buffer and the output
+abbrev pub receives : ℕ → ℕ → State → List ℕ → List ℕ → List ℕ → Outcome
+receives c l s d b o = record { code = c; len = l; next = s; desc = d; buf = b; out = o }
 
 -- 0 with both sides' states, the descriptor and the buffer
 abbrev pub opens : State → State → List ℕ → List ℕ → Opening
@@ -116,6 +123,15 @@ table =
     ∷ (unpackAnswer (0x12340001 ∷ 0xF0000000 ∷ []) is unpacked (message Guc 0x1234 1 (Success 0)))
     ∷ (unpackAnswer (0x12340001 ∷ 0xE0AB0010 ∷ []) is unpacked (message Guc 0x1234 1 (Failure 0x0AB 0x10)))
     ∷ (packAnswer (message Host 0x1234 1 (Request 0xFFF 0)) is packed 0x12340001 0x0FFF0000)
+    -- Ours: document 02's fast request. Origin 0 and type 2 are the first hex digit, 2; data 0x0AB the three after it, action 0x4601 the
+    -- last four.
+    ∷ (packAnswer (message Host 0x1234 1 (FastRequest 0x0AB 0x4601)) is packed 0x12340001 0x20AB4601)
+    ∷ (unpackAnswer (twoDwords 0x20AB4601) is unpacked (message Host 0x1234 1 (FastRequest 0x0AB 0x4601)))
+    -- Ours: the same digits with type 4; and a word of each type that has none above. With origin 1 the first digit is 8 more than the type.
+    ∷ (unpackAnswer (twoDwords 0x40AB4601) is refusedUnpack 4)
+    ∷ (packAnswer (message Guc 0x1234 1 (Event 0x001 0x1000)) is packed 0x12340001 0x90011000)
+    ∷ (packAnswer (message Guc 0x1234 1 (Busy 5)) is packed 0x12340001 0xB0000005)
+    ∷ (packAnswer (message Guc 0x1234 1 (Retry 1)) is packed 0x12340001 0xD0000001)
     -- 'P N = 1,024 fresh: free 1,023.'
     ∷ (freeBy (freshChannel .desc) is 1023)
     -- Ours: all that such an opening gives.
@@ -155,6 +171,14 @@ table =
     is refused 9 (idleAt 1024 8) (descriptorWith 8 18 2) (bufferWith 0x00000025) [])
     ∷ (Receive.look (idleAt 1024 8) (descriptorWith 8 46 0) (bufferWith 0x00000025)
     is accepted (state 1024 8 38 1 (0x00000025 ∷ replicate 255 0)) (descriptorWith 8 46 0) (bufferWith 0x00000025))
+    -- Ours: a fast request is sent and received; with type 4 in its place it is 4 for the sender, and 13 for the receiver, whose HEAD moves.
+    ∷ (Send.whole (idleAt 1024 8) (twoDwords 0x20AB4601) (descriptorWith 8 8 0) buffer
+    is accepted (idleAt 1024 10) (descriptorWith 8 10 0) (bufferOf (twoDwords 0x20AB4601)))
+    ∷ (Receive.whole (idleAt 1024 8) (untouched 257) (descriptorWith 8 10 0) (bufferOf (twoDwords 0x20AB4601))
+    is receives 0 2 (idleAt 1024 10) (descriptorWith 10 10 0) (bufferOf (twoDwords 0x20AB4601)) (twoDwords 0x20AB4601 ++ untouched 255))
+    ∷ (Send.whole (idleAt 1024 8) (twoDwords 0x40AB4601) (descriptorWith 8 8 0) buffer is refused 4 (idleAt 1024 8) (descriptorWith 8 8 0) buffer [])
+    ∷ (Receive.whole (idleAt 1024 8) (untouched 257) (descriptorWith 8 10 0) (bufferOf (twoDwords 0x40AB4601))
+    is receives 13 0 (idleAt 1024 10) (descriptorWith 10 10 0) (bufferOf (twoDwords 0x40AB4601)) (untouched 257))
     -- 'P k 64, m 64, e 1, h 161, s 1,161: ..'
     ∷ (map (Css.headerDword (image 4644)) (7 ∷ 8 ∷ 9 ∷ 1 ∷ 6 ∷ []) is 64 ∷ 64 ∷ 1 ∷ 161 ∷ 1161 ∷ [])
     -- Ours: the blobs have as many bytes as the lines below say.

@@ -9,7 +9,7 @@ use Rattle.message.specs.Fields.{FieldValue}
 use Rattle.message.specs.Types.{typeOf, carried, ofType}
 use Rattle.message.specs.Packing.{Answer, originNumber, originOf, packAnswer}
 use Rattle.message.specs.declared.Body.{Body}
-use Rattle.message.specs.declared.Body.the-variants.{Request, Event, Busy, Retry, Failure, Success}
+use Rattle.message.specs.declared.Body.the-variants.{Request, Event, FastRequest, Busy, Retry, Failure, Success}
 use Rattle.message.specs.declared.Message.{Message}
 use Rattle.guc.specs.declared.messages.Packed.{Packed}
 use Rattle.guc.specs.declared.messages.Unpacked.{Unpacked}
@@ -22,7 +22,7 @@ noSuch = 101
 
 -- the body of a type with its fields, the upper one first, or none
 unfoldable pub bodyFor : ℕ → ℕ → ℕ → Option Body
-bodyFor t a b = ofType t (Request a b ∷ Event a b ∷ Busy a ∷ Retry a ∷ Failure a b ∷ Success a ∷ [])
+bodyFor t a b = ofType t (Request a b ∷ Event a b ∷ FastRequest a b ∷ Busy a ∷ Retry a ∷ Failure a b ∷ Success a ∷ [])
 
 unfoldable pub ofTyped : Typed → Option Body
 ofTyped typed.Unknown = none

@@ -10,6 +10,7 @@ use message::Origin;
 use message::TYPE_BUSY;
 use message::TYPE_EVENT;
 use message::TYPE_FAILURE;
+use message::TYPE_FAST_REQUEST;
 use message::TYPE_REQUEST;
 use message::TYPE_RETRY;
 use message::TYPE_SUCCESS;
@@ -53,6 +54,10 @@ fn of_type(t: u32, first: u32, second: u32) -> Typed
             data: first,
             action: second,
         }),
+        TYPE_FAST_REQUEST => Typed::Known(Body::FastRequest {
+            data: first,
+            action: second,
+        }),
         TYPE_BUSY => Typed::Known(Body::Busy { counter: first }),
         TYPE_RETRY => Typed::Known(Body::Retry { reason: first }),
         TYPE_FAILURE => Typed::Known(Body::Failure {
@@ -71,6 +76,7 @@ fn spare(b: Body, second: u32) -> bool
     match b {
         Body::Request { data: _, action: _ } => true,
         Body::Event { data: _, action: _ } => true,
+        Body::FastRequest { data: _, action: _ } => true,
         Body::Busy { counter: _ } => second == 0,
         Body::Retry { reason: _ } => second == 0,
         Body::Failure { hint: _, error: _ } => true,
@@ -188,6 +194,9 @@ fn decoded(m: Message) -> Unpacked
     match body {
         Body::Request { data, action } => said(origin, fence, n, TYPE_REQUEST, data, action),
         Body::Event { data, action } => said(origin, fence, n, TYPE_EVENT, data, action),
+        Body::FastRequest { data, action } => {
+            said(origin, fence, n, TYPE_FAST_REQUEST, data, action)
+        }
         Body::Busy { counter } => said(origin, fence, n, TYPE_BUSY, counter, 0),
         Body::Retry { reason } => said(origin, fence, n, TYPE_RETRY, reason, 0),
         Body::Failure { hint, error } => said(origin, fence, n, TYPE_FAILURE, hint, error),

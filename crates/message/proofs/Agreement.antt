@@ -11,18 +11,19 @@ use lib.ListN.{length, getD}
 use lib.Dec.{eqb, leb}
 use borrow.Author.Tests.{eqb-true, eqb-false, leb-true, eq-eqb, le-leb}
 use Rattle.message.specs.Fields.{fence, numDwords, origin, fieldOf, FieldValue, fit, dword, holds}
-use Rattle.message.specs.Types.{bodyOf, known}
+use Rattle.message.specs.Types.{carried, bodyOf, known}
 use Rattle.message.specs.Header.{isMessage}
 use Rattle.message.specs.Packing.{originNumber, originOf, decoded, unpack, headerFields, hxgFields, pack, refusing}
-use Rattle.message.specs.Agreement.{Agreement}
+use Rattle.message.specs.Agreement.{Formed, Agreement}
 use Rattle.message.specs.declared.Origin.{Origin}
 use Rattle.message.specs.declared.Origin.the-variants.{Host, Guc}
 use Rattle.message.specs.declared.Body.{Body}
+use Rattle.message.specs.declared.Body.the-variants.{Request, FastRequest}
 use Rattle.message.specs.declared.Message.{Message}
 use Rattle.message.proofs.Tests.{and-l, and-r}
 use Rattle.message.proofs.Tiling.{tiles, holds-first, holds-rest, holds-fit, dword-lt, dword-holds, dword-again}
 use Rattle.message.proofs.Types.{type-4-unknown, others-known, known-body, body-known, body-holds, holds-body}
-use Rattle.message.proofs.Formed.{WellFormed, message-well, message-i}
+use Rattle.message.proofs.Formed.{WellFormed, well-formed, well-formed-i, message-length, message-well, message-i}
 use Rattle.message.proofs.PackLaws.{header-tiles, hxg-tiles, unpack-some, unpack-none}
 
 -- the origin's bit, there and back
@@ -186,12 +187,30 @@ packs-from m h w lh lw u =
     let ew = made-again (hxgFields m) w lw (hxg-tiles m) (u .2) in
     rw (packs-i m (u .0) (holds-fit (headerFields m) h (u .1)) (holds-fit (hxgFields m) w (u .2)), eh, ew)
 
+-- a header and an HXG dword 0 are well formed by the paper's list exactly when they are by the test, type 4 being the unknown one
+formed-from : (h w : ℕ) → WellFormed h w → Formed h w
+formed-from h w f = (f .format-zero, f .reserved-zero, f .low, f .high, type-4-unknown w (f .known-type))
+
+formed-to : (h w : ℕ) → Formed h w → WellFormed h w
+formed-to h w f = record { format-zero = f .0; reserved-zero = f .1; low = f .2; high = f .3; known-type = others-known w (f .4) }
+
+as-a-request : (d a w : ℕ) → holds (carried (FastRequest d a)) w ≡ holds (carried (Request d a)) w
+unfolding holds carried
+as-a-request d a w = refl
+
 pub agreement : Agreement
 agreement =
     record {
       packing-answers = λ m. answers 14 (pack m);
       unpacking-answers = λ d. answers 4 (unpack d);
       only-4-unknown = λ w. (type-4-unknown w, others-known w);
+      as-a-request = as-a-request;
+      formed = λ h w. (λ e. formed-from h w (well-formed h w e), λ f. well-formed-i h w (formed-to h w f));
+      message =
+          λ d. (
+            λ e. (message-length d e, formed-from (getD d 0 0) (getD d 1 0) (message-well d e)),
+            λ f. message-i d (f .0) (formed-to (getD d 0 0) (getD d 1 0) (f .1)),
+          );
       accepts =
           λ d e. let k = known-body (getD d 1 0) (message-well d e .known-type) in
           (decoded (getD d 0 0) (getD d 1 0) (k .0), unpack-some d (k .0) e (k .1));

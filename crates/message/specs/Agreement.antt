@@ -6,11 +6,17 @@ use mathlib.Core.Bool.{true, false}
 use mathlib.Core.List.{List, _∷_}
 use mathlib.Core.Option.{none, some}
 use lib.ListN.{length, getD}
-use Rattle.message.specs.Fields.{type, fieldOf, holds}
-use Rattle.message.specs.Types.{known}
-use Rattle.message.specs.Header.{isMessage}
+use Rattle.message.specs.Fields.{format, reserved, numDwords, type, fieldOf, holds}
+use Rattle.message.specs.Types.{carried, known}
+use Rattle.message.specs.Header.{totalLength, wellFormed, isMessage}
 use Rattle.message.specs.Packing.{unpack, pack, headerFields, hxgFields, packAnswer, unpackAnswer}
+use Rattle.message.specs.declared.Body.the-variants.{Request, FastRequest}
 use Rattle.message.specs.declared.Message.{Message}
+
+-- 'Well formed: format 0, reserved 0, NUM_DWORDS 1 to 255, and a known HXG type in the second dword', where 'only type 4 stays unknown'
+abbrev pub Formed : ℕ → ℕ → Type 0
+Formed h w =
+    (fieldOf format h ≡ 0) × (fieldOf reserved h ≡ 0) × (1 ≤ fieldOf numDwords h) × (fieldOf numDwords h ≤ 255) × (fieldOf type w ≡ 4 → ⊥)
 
 pub record Agreement : Type 0 where
   -- what the calls answer, beside their number, is this
@@ -18,6 +24,11 @@ pub record Agreement : Type 0 where
   pub unpacking-answers : (d : List ℕ) → unpackAnswer d .value ≡ unpack d
   -- 'only type 4 stays unknown': the type of a dword is known exactly when it is not 4
   pub only-4-unknown : (w : ℕ) → (known w ≡ true) ↔ (fieldOf type w ≡ 4 → ⊥)
+  -- 'a fast request, which wants no success reply and is laid out as a request': a dword holds data and action of both in the same places
+  pub as-a-request : (d a w : ℕ) → holds (carried (FastRequest d a)) w ≡ holds (carried (Request d a)) w
+  -- 'Refusals 4 and 13 follow the mended rule': so does each test that gives them
+  pub formed : (h w : ℕ) → (wellFormed h w ≡ true) ↔ Formed h w
+  pub message : (d : List ℕ) → (isMessage d ≡ true) ↔ ((length d ≡ totalLength (getD d 0 0)) × Formed (getD d 0 0) (getD d 1 0))
   -- 'Unpacking takes a whole message and refuses a malformed one'
   pub accepts : (d : List ℕ) → isMessage d ≡ true → (m : Message) × (unpack d ≡ some m)
   pub refuses : (d : List ℕ) → isMessage d ≡ false → unpack d ≡ none

@@ -1,5 +1,5 @@
--- Where each number of a CTB header and of an HXG dword 0 stands (document 01, 'Messages'): one table, and
--- what it is to read a field of a dword and to put one there.
+-- Where each number of a CTB header and of an HXG dword 0 stands (document 01, 'Messages', and for the fast request document 02, T-02): one
+-- table, and what it is to read a field of a dword and to put one there.
 use Prim.Native.Nat.{ℕ, _+_, _-_, _*_, _/_, _%_, _^_}
 use mathlib.Core.Bool.{Bool, true, _&&_}
 use mathlib.Core.List.{List, [], _∷_}
@@ -48,7 +48,7 @@ bitsOf requestAction = bits 15 0
 -- event: 'data 27:16, action 15:0'
 bitsOf eventData = bits 27 16
 bitsOf eventAction = bits 15 0
--- fast request: 'laid out as a request' (document 02)
+-- fast request: 'laid out as a request'
 bitsOf fastRequestData = bits 27 16
 bitsOf fastRequestAction = bits 15 0
 -- busy: 'counter 27:0'

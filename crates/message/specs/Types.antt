@@ -1,6 +1,6 @@
 -- The types of HXG messages (document 01, 'Messages'): the number of each, its fields, and which types are known. Document 02 (T-02)
 -- corrects document 01 here: 'The current public HXG header lists type 2, a fast request, which wants no success reply and is laid out as a
--- request.' Linux names it GUC_HXG_TYPE_FAST_REQUEST. The type says nothing to the channel: who wants which reply is a caller's matter.
+-- request.' Linux names it GUC_HXG_TYPE_FAST_REQUEST. To the channel one known type is as good as another: who wants which reply is its callers' matter.
 use Prim.Native.Nat.{ℕ}
 use mathlib.Core.Bool.{Bool, true, false, cond}
 use mathlib.Core.List.{List, [], _∷_}
@@ -51,10 +51,11 @@ unfoldable pub ofType : ℕ → List Body → Option Body
 ofType t [] = none
 ofType t (b ∷ bs) = cond (eqb t (typeOf b)) (some b) (ofType t bs)
 
--- the body that an HXG dword 0 holds, or none: 'only type 4 stays unknown'
+-- the body that an HXG dword 0 holds; none where its type is unknown
 unfoldable pub bodyOf : ℕ → Option Body
 bodyOf word = ofType (fieldOf type word) (bodies word)
 
+-- whether there is one
 unfoldable pub someBody : Option Body → Bool
 someBody none = false
 someBody (some b) = true

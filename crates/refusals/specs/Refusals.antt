@@ -24,8 +24,8 @@ use Rattle.refusals.specs.Left.{OperationRefused, OpeningRefused, Reserv
 -- ---- the calls that the paper names, and ours beside them, with all that each is given
 
 -- With each stand the functions whose contracts cite its definition. Functions that a crate only lends to those above it (the decisions of `ring` and `channel`, and
--- whole calls at once) are held to the chains themselves. `guc` has these calls under C's names, and what it refuses beyond them (100, 101, and a field that a
--- type does not have) is in guc/specs.
+-- whole calls at once) are held to the chains themselves. `guc` has these calls under C's names, and what it refuses beyond them (100, 101, an
+-- origin that is no bit, and a field that a type does not have) is in guc/specs.
 pub data PublicCall : Type 0 where
   -- channel::open_channel, side::open_channel
   openCall : List ℕ → List ℕ → PublicCall

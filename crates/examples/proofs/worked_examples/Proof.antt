@@ -8,7 +8,7 @@ use Rattle.message.specs.Types.{typeOf, carried, bodyFields, bodies, ofType, bo
 use Rattle.message.specs.Header.{wellFormed, isMessage}
 use Rattle.message.specs.Packing.{originNumber, originOf, decoded, unpack, headerFields, hxgFields, pack, refusing}
 use Rattle.ring.specs.Ring.{allowed, used, free}
-use Rattle.channel.specs.State.{zeros, allZero, idle, activeSend}
+use Rattle.channel.specs.State.{zeros, allZero, idle, activeSend, activeReceive}
 use Rattle.ring.specs.Numbers.{need, firstNeeds, lookNeeds, sendLookNeeds, receiveLookNeeds, sendDecision, receiveDecision, marked}
 use Rattle.channel.specs.Opening.{openNumber, openBy}
 use Rattle.channel.specs.Steps.{moves}
@@ -31,21 +31,24 @@ _&_ row rows = (row, rows)
 examples : Examples
 unfolding
     Each table freshChannel once twice thrice full stores around
-    Inputs.countUp Inputs.dwords Inputs.descriptorWith Inputs.buffer Inputs.bufferWith
+    Inputs.countUp Inputs.dwords Inputs.descriptorWith Inputs.buffer Inputs.bufferOf Inputs.bufferWith
     Inputs.littles Inputs.cssHeader Inputs.image Inputs.entryBytes Inputs.directory
     fit dword typeOf carried bodyFields bodies ofType bodyOf someBody known wellFormed isMessage originNumber originOf
     decoded unpack Option·elim headerFields hxgFields pack refusing
     allowed used free zeros allZero idle activeSend need firstNeeds lookNeeds sendLookNeeds receiveLookNeeds marked openNumber openBy
-    sendDecision Send.lookBy Send.moveNumber Send.moveBy Send.publishNumber Send.publishBy moves Send.afterLook receiveDecision Receive.lookBy
+    sendDecision Send.lookBy Send.moveNumber Send.moveBy Send.publishNumber Send.publishBy moves Send.afterLook receiveDecision Receive.lookBy Receive.wholeNumber Receive.wholeBy
+    Receive.afterLook Receive.moveNumber Receive.moveBy Receive.publishNumberOf Receive.publishBy activeReceive
     dwordAt Css.sizes Css.agree Css.spanOf Css.number Css.truncated Css.shown Css.place
     Cpd.all Cpd.firstFrom Cpd.isName Cpd.hasMarker Cpd.directoryNumber Cpd.firstEntry Cpd.entryNumber Cpd.entryPlace Cpd.number Cpd.place
 examples =
     refl & refl & refl & refl & refl & refl & refl
+    & refl & refl & refl & refl & refl & refl
     & refl & refl
     & refl & refl & refl & refl & refl & refl & refl & refl
     & refl & refl & refl & refl
     & refl & refl & refl & refl & refl
     & refl & refl & refl
+    & refl & refl & refl & refl
     & refl & refl & refl & refl & refl & refl
     & refl & refl & refl & refl
     & tt
