@@ -2,11 +2,15 @@
 use crate::calls::Ctb;
 use crate::calls::open;
 use crate::calls::receive;
+use crate::calls::receive_due;
 use crate::calls::receive_look;
 use crate::calls::receive_publish;
 use crate::calls::send;
+use crate::calls::send_dwords;
 use crate::calls::send_look;
+use crate::dwords::fast_request;
 use crate::dwords::put;
+use crate::dwords::whole;
 use crate::wording::dword;
 use crate::wording::named;
 use crate::wording::number;
@@ -107,20 +111,21 @@ pub(crate) fn cut_short() {
     receive_look(with_tail(c, 6));
 }
 
-// A message of unknown type and a header alone are passed over, and the good message behind them is received.
+// A message of unknown type and a header alone are passed over, and the good message behind them, a fast request, is received.
 pub(crate) fn passed_over() {
     text(b"\nWhole messages that are malformed\n");
     let c = unknown_type(open());
     let c = header_alone(c);
     let c = receive_look(c);
-    let c = send(with_own_tail(c, 4), 18, 1);
-    receive(c, 18, 1);
+    let m = fast_request(18, 1);
+    let c = send_dwords(with_own_tail(c, 4), b", a fast request", whole(&m));
+    receive_due(c, &m);
 }
 
-// Three dwords with type 2, received whole.
+// Three dwords with type 4, received whole.
 fn unknown_type(c: Ctb) -> Ctb {
     let c = with_header(c, 0, 0x0010_0002);
-    let c = with_dword(c, 1, 0x2000_0000, b", of type 2, which is unknown\n");
+    let c = with_dword(c, 1, 0x4000_0000, b", of type 4, which is unknown\n");
     let c = with_dword(c, 2, 0x0000_0001, b"\n");
     receive(with_tail(c, 3), 16, 2)
 }

@@ -122,17 +122,9 @@ fn laid(len: usize, out: &[u32; 256], due: &[u32; 256]) {
 }
 
 // What a receive or its publish answered, to the end of its line, and the channel as the call left it.
-fn after_output(
-    c: Ctb,
-    got: Received,
-    desc: [u32; 16],
-    out: [u32; 256],
-    fence: u32,
-    num_dwords: u32,
-) -> Ctb {
-    let due = request(fence, num_dwords);
+fn after_output(c: Ctb, got: Received, desc: [u32; 16], out: [u32; 256], due: &[u32; 256]) -> Ctb {
     verdict(got.code);
-    laid(got.len, &out, &due);
+    laid(got.len, &out, due);
     let r = got.next;
     after_receive(c, r, desc)
 }
@@ -196,13 +188,18 @@ pub(crate) fn send_publish(c: Ctb) -> Ctb {
 
 // A whole receive, where a request is due.
 pub(crate) fn receive(c: Ctb, fence: u32, num_dwords: u32) -> Ctb {
+    receive_due(c, &request(fence, num_dwords))
+}
+
+// A whole receive, where this message is due.
+pub(crate) fn receive_due(c: Ctb, due: &[u32; 256]) -> Ctb {
     let mut out = untouched();
     let r = c.receiver;
     let mut desc = c.desc;
     let buf = c.buf;
     let got = r.receive(&mut desc, &buf, &mut out);
     text(b"Receive");
-    after_output(c, got, desc, out, fence, num_dwords)
+    after_output(c, got, desc, out, due)
 }
 
 // A receive's look.
@@ -233,5 +230,5 @@ pub(crate) fn receive_publish(c: Ctb, fence: u32, num_dwords: u32) -> Ctb {
     let buf = c.buf;
     let got = r.publish(&mut desc, &buf, &mut out);
     text(b"Receiver publishes");
-    after_output(c, got, desc, out, fence, num_dwords)
+    after_output(c, got, desc, out, &request(fence, num_dwords))
 }

@@ -77,15 +77,36 @@ pub(crate) fn untouched() -> [u32; 256] {
 
 // A host's request at the front of 256 dwords, each with a value of its own.
 pub(crate) fn request(fence: u32, num_dwords: u32) -> [u32; 256] {
+    packed(
+        fence,
+        num_dwords,
+        Body::Request {
+            data: 0,
+            action: fence,
+        },
+    )
+}
+
+// The same as a fast request.
+pub(crate) fn fast_request(fence: u32, num_dwords: u32) -> [u32; 256] {
+    packed(
+        fence,
+        num_dwords,
+        Body::FastRequest {
+            data: 0,
+            action: fence,
+        },
+    )
+}
+
+// A host's message with this body.
+fn packed(fence: u32, num_dwords: u32, body: Body) -> [u32; 256] {
     let mut dwords = [0u32; 256];
     let m = Message {
         origin: Origin::Host,
         fence: fence,
         num_dwords: num_dwords,
-        body: Body::Request {
-            data: 0,
-            action: fence,
-        },
+        body: body,
     };
     match message::pack(m) {
         Packed::Unfit => (),

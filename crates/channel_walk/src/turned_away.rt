@@ -57,9 +57,9 @@ fn receive_to_255(c: Ctb) {
     text(b"\n");
 }
 
-// A send of a message of type 2.
+// A send of a message of type 4.
 pub(crate) fn send_malformed(c: Ctb) -> Ctb {
-    send_dwords(c, b", type 2", &[0x0013_0001, 0x2000_0000])
+    send_dwords(c, b", type 4", &[0x0013_0001, 0x4000_0000])
 }
 
 // A send's store over a descriptor that is a dword short.

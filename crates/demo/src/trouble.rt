@@ -24,7 +24,7 @@ pub(crate) fn malformed(c: Ctb) -> Ctb {
     text(b"\n6. A malformed message is passed over, and the next one arrives\n");
     let c = send(c, 11, 63);
     let c = send(c, 12, 31);
-    let c = picture(with_dword(c, 1, 0x2000_000b, b": type 2, which is unknown\n"));
+    let c = picture(with_dword(c, 1, 0x4000_000b, b": type 4, which is unknown\n"));
     let c = picture(receive(c, 11, 63));
     picture(receive(c, 12, 31))
 }

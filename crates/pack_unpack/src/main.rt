@@ -19,6 +19,7 @@ fn whole_messages() {
         b"event with three dwords more",
         &[0x0007_0004, 0x9001_1000, 1, 2, 3],
     );
+    show_unpacking(b"fast request", &[0x1234_0001, 0x20ab_4601]);
     show_unpacking(b"busy", &[0x1234_0001, 0xb000_0005]);
     show_unpacking(b"retry", &[0x1234_0001, 0xd000_0001]);
     show_unpacking(b"failure", &[0x1234_0001, 0xe0ab_0010]);
@@ -31,7 +32,6 @@ fn whole_messages() {
 
 fn malformed_messages() {
     text(b"\nMalformed messages\n");
-    show_unpacking(b"type 2", &[0x1234_0001, 0x2000_0000]);
     show_unpacking(b"type 4", &[0x1234_0001, 0x4000_0000]);
     show_unpacking(b"format 1", &[0x1234_1001, 0]);
     show_unpacking(b"a reserved bit", &[0x1234_0101, 0]);
@@ -45,6 +45,7 @@ fn packed_messages() {
     text(b"\nPacked\n");
     show_packing(message_of(Origin::Host, 0x1234, 1, request(0, 0x10)));
     show_packing(message_of(Origin::Guc, 0x1234, 2, event(1, 0x1000)));
+    show_packing(message_of(Origin::Host, 0x1234, 1, fast_request(0x0ab, 0x4601)));
     show_packing(message_of(Origin::Guc, 0x1234, 1, Body::Busy { counter: 5 }));
     show_packing(message_of(Origin::Guc, 0x1234, 1, Body::Retry { reason: 1 }));
     show_packing(message_of(Origin::Guc, 0x1234, 1, failure(0x0ab, 0x10)));
@@ -58,6 +59,7 @@ fn unfit_messages() {
     text(b"\nNot to be packed\n");
     show_packing(message_of(Origin::Host, 0x1234, 1, request(0x1000, 0)));
     show_packing(message_of(Origin::Host, 0x1234, 1, event(0, 0x1_0000)));
+    show_packing(message_of(Origin::Host, 0x1234, 1, fast_request(0x1000, 0x4601)));
     show_packing(message_of(Origin::Guc, 0x1234, 1, Body::Busy { counter: wide }));
     show_packing(message_of(Origin::Guc, 0x1234, 1, failure(0, 0x1_0000)));
     show_packing(message_of(Origin::Guc, 0x1_0000, 1, reply));
@@ -83,6 +85,13 @@ fn request(data: u32, action: u32) -> Body {
 
 fn event(data: u32, action: u32) -> Body {
     Body::Event {
+        data: data,
+        action: action,
+    }
+}
+
+fn fast_request(data: u32, action: u32) -> Body {
+    Body::FastRequest {
         data: data,
         action: action,
     }
@@ -149,6 +158,9 @@ fn described(m: Message) {
     match body {
         Body::Request { data, action } => pair(b" request, data ", data, b", action ", action),
         Body::Event { data, action } => pair(b" event, data ", data, b", action ", action),
+        Body::FastRequest { data, action } => {
+            pair(b" fast request, data ", data, b", action ", action)
+        }
         Body::Busy { counter } => named(b" busy, counter ", counter),
         Body::Retry { reason } => named(b" retry, reason ", reason),
         Body::Failure { hint, error } => pair(b" failure, hint ", hint, b", error ", error),
