@@ -8,8 +8,7 @@
 
 static int known_type(uint32_t hxg)
 {
-    uint32_t t = (hxg >> 28) & 7;
-    return t != 2 && t != 4;
+    return ((hxg >> 28) & 7) != 4;
 }
 
 // The message, then STATUS, HEAD and TAIL (each read once), then room for it.

@@ -135,7 +135,7 @@ static void send_in_steps(void)
 	make_message(msg, 2, 9);
 	code = guc_send_look(ch.sender, ch.desc, GUC_DESC_DWORDS, ch.buf, N, msg, 2);
 	CHECK(code == GUC_OK && ch.desc[GUC_DESC_TAIL] == 0);
-	msg[1] = 0x20000000u; /* too late: the look took its own copy */
+	msg[1] = 0x40000000u; /* too late: the look took its own copy */
 	code = guc_send_publish(ch.sender, ch.desc, GUC_DESC_DWORDS, ch.buf, N);
 	CHECK(code == GUC_OUT_OF_TURN);
 	CHECK(guc_send_store(ch.sender, ch.desc, GUC_DESC_DWORDS, ch.buf, N) == GUC_OK);
@@ -208,6 +208,31 @@ static void packing(void)
 	printf("refused: 14 and 101 packing, 4 unpacking\n");
 }
 
+/* Type 2 is laid out as a request; type 4 alone is unknown. */
+static void fast_request(void)
+{
+	struct guc_packed p = guc_pack(GUC_ORIGIN_HOST, 0x1234, 1, GUC_TYPE_FAST_REQUEST, 0x0AB,
+				       0x4601);
+	uint32_t msg[2] = { p.header, p.word };
+	struct guc_unpacked u = guc_unpack(msg, 2);
+
+	CHECK(p.code == GUC_OK && p.header == 0x12340001u && p.word == 0x20AB4601u);
+	CHECK(u.code == GUC_OK && u.origin == GUC_ORIGIN_HOST && u.fence == 0x1234);
+	CHECK(u.type == GUC_TYPE_FAST_REQUEST && u.first == 0x0AB && u.second == 0x4601);
+	CHECK(do_open() == GUC_OK && do_send(msg, 2) == GUC_OK);
+	CHECK(do_receive().code == GUC_OK && memcmp(ch.out, msg, sizeof(msg)) == 0);
+	printf("fast request: 0x%08X, data 0x%03X, action 0x%X\n", (unsigned)p.word,
+	       (unsigned)u.first, (unsigned)u.second);
+	msg[1] = 0x40AB4601u;
+	CHECK(do_send(msg, 2) == GUC_BAD_MESSAGE && ch.desc[GUC_DESC_TAIL] == 2);
+	CHECK(guc_unpack(msg, 2).code == GUC_BAD_MESSAGE);
+	CHECK(guc_pack(GUC_ORIGIN_HOST, 0x1234, 1, 4, 0x0AB, 0x4601).code == GUC_NO_SUCH);
+	memcpy(ch.buf + 2, msg, sizeof(msg));
+	ch.desc[GUC_DESC_TAIL] = 4;
+	CHECK(do_receive().code == GUC_MALFORMED && ch.desc[GUC_DESC_HEAD] == 4);
+	printf("type 4: 4 sending and unpacking, 13 receiving, 101 packing\n");
+}
+
 int main(void)
 {
 	opening();
@@ -216,6 +241,7 @@ int main(void)
 	send_in_steps();
 	broken_channels();
 	packing();
+	fast_request();
 	walk_blobs();
 	printf("done\n");
 	return 0;

@@ -69,7 +69,7 @@ static void ring(void)
 	ch.ring[1] = 0;
 	ch.desc[GUC_DESC_TAIL] = 3;
 	expect(receive_now(), GUC_OK, "ring");
-	ch.ring[1] = 0x20000000u;
+	ch.ring[1] = 0x40000000u;
 	ch.desc[GUC_DESC_HEAD] = 0;
 	expect(receive_now(), GUC_MALFORMED, "ring rewritten");
 	ch.ring[0] = 3;

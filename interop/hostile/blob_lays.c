@@ -169,7 +169,7 @@ void lay_manifest_rewritten(unsigned v)
 void lay_unpacked_rewritten(unsigned v)
 {
 	static const uint32_t header[3] = { 0xBEEF0003u, 0x12340004u, 0x12341003u };
-	static const uint32_t word[3] = { 0xE0AB0010u, 0x7FFFFFFFu, 0x20000000u };
+	static const uint32_t word[3] = { 0xE0AB0010u, 0x7FFFFFFFu, 0x40000000u };
 
 	lay_directory();
 	open_at(0, 0);

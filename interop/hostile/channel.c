@@ -36,9 +36,7 @@ void reset_channel(void)
 
 int well_formed(uint32_t header, uint32_t word)
 {
-	uint32_t type = word >> 28 & 7;
-
-	return (header & 0xFF00u) == 0 && (header & 0xFFu) != 0 && type != 2 && type != 4;
+	return (header & 0xFF00u) == 0 && (header & 0xFFu) != 0 && (word >> 28 & 7) != 4;
 }
 
 const char *idle_at(uint32_t own)

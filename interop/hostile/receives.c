@@ -35,7 +35,7 @@ static void lay_ring(unsigned v)
 	face_len[1] = 1 + (other[v] & 0xFF);
 	lay_pending(v % 2 ? N - 1 : 200, 4);
 	rewritten(ch.ring + ch.own, 4, good, 0x43210000u | other[v]);
-	rewritten(ch.ring + after(1), 4, 0x10000020u, v < 3 ? 0x20000020u : 0xC0000020u);
+	rewritten(ch.ring + after(1), 4, 0x10000020u, v < 3 ? 0x40000020u : 0xC0000020u);
 }
 
 static void reset_receive(void)

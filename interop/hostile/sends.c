@@ -30,7 +30,7 @@ static void lay_faces(unsigned v)
 
 	lay_message(v % 2 ? N - 1 : 37 * v, len);
 	rewritten(ch.msg, 4, good, bad[v]);
-	rewritten(ch.msg + 1, 4, 0x00000010u, v % 2 ? 0x20000010u : 0xC0000010u);
+	rewritten(ch.msg + 1, 4, 0x00000010u, v % 2 ? 0x40000010u : 0xC0000010u);
 }
 
 static void reset_send(void)

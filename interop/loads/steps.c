@@ -13,7 +13,7 @@ static void send_step(int publish, uint32_t answer, uint32_t stored, const char 
 	for (k = 0; k < stored; k++)
 		guc_send_store(sender, desc, desc_len, ring, n);
 	if (answer == GUC_BAD_STATE)
-		sender[GUC_STATE_COPY + 1] = 0x20000000u;
+		sender[GUC_STATE_COPY + 1] = 0x40000000u;
 	calling(publish ? "guc_send_publish" : "guc_send_store", answer, note);
 	lent_state(sender);
 	lent_desc();
@@ -121,7 +121,7 @@ void step_calls(void)
 	receive_publish(GUC_SHORT_OUTPUT, 5);
 	receive_publish(GUC_OUT_OF_TURN, 4);
 	unpack(GUC_OK, 5, 0x10000020u, "");
-	unpack(GUC_BAD_MESSAGE, 5, 0x20000000u, "type");
+	unpack(GUC_BAD_MESSAGE, 5, 0x40000000u, "type");
 	unpack(GUC_BAD_MESSAGE, 4, 0x10000020u, "length");
 	unpack(GUC_BAD_MESSAGE, 1, 0x10000020u, "one dword");
 }

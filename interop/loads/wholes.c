@@ -76,7 +76,7 @@ void send_calls(int look)
 		{ GUC_BAD_STATE, "other N", sender + GUC_STATE_N, 2048, 0, 0 },
 		{ GUC_BAD_STATE, "last of the copy", sender + 259, 1, 0, 0 },
 		{ GUC_BAD_MESSAGE, "header", msg, 0x1004, 0, 0 },
-		{ GUC_BAD_MESSAGE, "type", msg + 1, 0x20000000, 0, 0 },
+		{ GUC_BAD_MESSAGE, "type", msg + 1, 0x40000000, 0, 0 },
 		{ GUC_BAD_MESSAGE, "length", 0, 0, &msg_len, 6 },
 		{ GUC_BROKEN, "", desc + GUC_DESC_STATUS, 8, 0, 0 },
 		{ GUC_OVERFLOW, "HEAD", desc + GUC_DESC_HEAD, N, 0, 0 },

@@ -7,6 +7,7 @@ use crate::functions::Fun;
 use crate::guc::{self, constants::GUC_STATE_WORDS};
 use crate::lent::{words, Lent};
 use crate::same::{same, same_lent, Outcome};
+use crate::sets::Set;
 use crate::tally::Tally;
 use model::channel::Answer;
 use model::generate::{self, Rng};
@@ -89,6 +90,18 @@ fn fun_of(op: Op) -> Fun {
     }
 }
 
+/// Counts the type of the message that an accepted call took or handed out.
+fn count_type(tally: &mut Tally, case: &Case) -> Outcome {
+    let (set, message) = match case.op {
+        Op::SendLook => (Set::SendLook, &case.msg),
+        Op::SendWhole => (Set::Send, &case.msg),
+        Op::ReceivePublish => (Set::ReceivePublish, &case.out),
+        Op::ReceiveWhole => (Set::Receive, &case.out),
+        _ => return Ok(()),
+    };
+    tally.accepted(set, (message[1] >> 28) % 8)
+}
+
 /// One call, made by both.
 pub fn check(rng: &mut Rng, tally: &mut Tally) -> Outcome {
     let case = generate::case(rng);
@@ -107,6 +120,9 @@ pub fn check_case(rng: &mut Rng, tally: &mut Tally, mut case: Case) -> Outcome {
     memory.compare(&case, &answer).map_err(named)?;
     tally.answer_at(fun_of(op), code, &stands).map_err(named)?;
     tally.input(&stands);
+    if code == 0 {
+        count_type(tally, &case).map_err(named)?;
+    }
     tally.mark("call with a slice against a forbidden page", memory.paged() as u64);
     if answer.len > 0 && case.out.len() > 256 {
         tally.mark("output longer than 256: rest unchanged", 1);

@@ -25,9 +25,11 @@ pub enum Edge {
     StateOwn,
     StateMoved,
     StateFirst,
+    StateType,
     MessageBelow,
     MessageAbove,
     NumDwords,
+    MessageType,
     Output,
     Head,
     Tail,
@@ -38,6 +40,7 @@ pub enum Edge {
     Pending,
     Publish,
     Move,
+    ReceivedType,
     PackOrigin,
     PackFence,
     PackNone,
@@ -46,6 +49,8 @@ pub enum Edge {
     PackOnly,
     PackSecond,
     PackNothing,
+    PackType,
+    PackWide,
     Which,
     Room,
     CssBytes,
@@ -101,6 +106,7 @@ const RECEIVES: &[Fun] = &[ReceiveLook, Receive];
 const MOVES: &[Fun] = &[SendStore, ReceiveCopy];
 const PUBLISHES: &[Fun] = &[SendPublish, ReceivePublish];
 const GOING_ON: &[Fun] = &[SendStore, SendPublish, ReceiveCopy, ReceivePublish];
+const STORING: &[Fun] = &[SendStore, SendPublish];
 const COPYING: &[Fun] = &[ReceiveCopy, ReceivePublish];
 const LAYING: &[Fun] = &[ReceivePublish, Receive];
 const MESSAGES: &[Fun] = &[SendLook, Send, Unpack];
@@ -125,7 +131,7 @@ const fn row(
 
 /// All of them, in the order of `Edge`.
 #[rustfmt::skip]
-pub const BOUNDARIES: [Boundary; 47] = [
+pub const BOUNDARIES: [Boundary; 52] = [
     row(Edge::DescriptorBelow, "descriptor's dwords", ["15", "16"], (1, BELOW), CHANNEL),
     row(Edge::DescriptorAbove, "descriptor's dwords", ["16", "17"], (1, ABOVE), CHANNEL),
     row(Edge::LeastN, "N", ["1,023", "1,024"], (2, BELOW), CHANNEL),
@@ -135,9 +141,11 @@ pub const BOUNDARIES: [Boundary; 47] = [
     row(Edge::StateOwn, "the state's own offset", ["N - 1", "N"], (3, ABOVE), WITH_STATE),
     row(Edge::StateMoved, "the state's moved", ["L", "L + 1"], (3, ABOVE), GOING_ON),
     row(Edge::StateFirst, "a receive's moved", ["0", "1"], (3, BELOW), COPYING),
+    row(Edge::StateType, "type in a send's copy", ["known", "4"], (3, ABOVE), STORING),
     row(Edge::MessageBelow, "the message's dwords", ["L - 1", "L"], (4, BELOW), MESSAGES),
     row(Edge::MessageAbove, "the message's dwords", ["L", "L + 1"], (4, ABOVE), MESSAGES),
     row(Edge::NumDwords, "the message's NUM_DWORDS", ["0", "1"], (4, BELOW), MESSAGES),
+    row(Edge::MessageType, "the message's type", ["known", "4"], (4, ABOVE), MESSAGES),
     row(Edge::Output, "the output's dwords", ["255", "256"], (5, BELOW), LAYING),
     row(Edge::Head, "HEAD", ["N - 1", "N"], (7, ABOVE), LOOKS),
     row(Edge::Tail, "TAIL", ["N - 1", "N"], (7, ABOVE), LOOKS),
@@ -148,6 +156,7 @@ pub const BOUNDARIES: [Boundary; 47] = [
     row(Edge::Pending, "used", ["0", "1"], (11, BELOW), RECEIVES),
     row(Edge::Publish, "moved at a publish", ["L - 1", "L"], (12, BELOW), PUBLISHES),
     row(Edge::Move, "moved at a move", ["L - 1", "L"], (12, ABOVE), MOVES),
+    row(Edge::ReceivedType, "type of a received message", ["known", "4"], (13, ABOVE), LAYING),
     row(Edge::PackOrigin, "origin to pack", ["1", "2"], (14, ABOVE), &[Pack]),
     row(Edge::PackFence, "fence to pack", ["2^16 - 1", "2^16"], (14, ABOVE), &[Pack]),
     row(Edge::PackNone, "NUM_DWORDS to pack", ["0", "1"], (14, BELOW), &[Pack]),
@@ -156,6 +165,8 @@ pub const BOUNDARIES: [Boundary; 47] = [
     row(Edge::PackOnly, "field 27:0 to pack", ["2^28 - 1", "2^28"], (14, ABOVE), &[Pack]),
     row(Edge::PackSecond, "field 15:0 to pack", ["2^16 - 1", "2^16"], (14, ABOVE), &[Pack]),
     row(Edge::PackNothing, "second field where none is", ["0", "1"], (14, ABOVE), &[Pack]),
+    row(Edge::PackType, "type to pack", ["known", "4"], (101, ABOVE), &[Pack]),
+    row(Edge::PackWide, "type to pack", ["7", "8"], (101, ABOVE), &[Pack]),
     row(Edge::Which, "component", ["3", "4"], (101, ABOVE), PARTS),
     row(Edge::Room, "room for a copy", ["length - 1", "length"], (100, BELOW), COPIES),
     row(Edge::CssBytes, "bytes of CSS", ["127", "128"], (15, BELOW), IMAGES),

@@ -5,6 +5,7 @@
 use crate::archive::{fun_of, state_words, Archive};
 use crate::functions::Fun;
 use crate::same::{same, same_lent, Outcome};
+use crate::sets::Set;
 use crate::tally::Tally;
 use model::channel::{HEAD, STATUS, TAIL};
 use model::generate::{buffer_length, near_malformed, operations, Rng};
@@ -57,6 +58,27 @@ fn named(index: usize, operation: &Operation, problem: String) -> String {
     format!("operation {index}, {:?}: {problem}", fun_of(operation))
 }
 
+/// Counts an answer and, where a message was taken or handed out, its type: for
+/// the function, and where `listed` for the lists that nobody tampers with.
+fn count_reply(tally: &mut Tally, operation: &Operation, reply: &Reply, listed: bool) -> Outcome {
+    tally.answer(fun_of(operation), reply.code);
+    let (set, in_list, message) = match operation {
+        Operation::SendLook(message) => (Set::SendLook, Set::ListSent, message),
+        Operation::SendWhole(message) => (Set::Send, Set::ListSent, message),
+        Operation::ReceivePublish(_) => (Set::ReceivePublish, Set::ListReceived, &reply.output),
+        Operation::ReceiveWhole(_) => (Set::Receive, Set::ListReceived, &reply.output),
+        _ => return Ok(()),
+    };
+    if reply.code != 0 {
+        return Ok(());
+    }
+    let kind = (message[1] >> 28) % 8;
+    if listed {
+        tally.accepted(in_list, kind)?;
+    }
+    tally.accepted(set, kind)
+}
+
 /// A list on an opened channel against the plain channel, which knows no
 /// states; those are held against the model's steps.
 pub fn check(rng: &mut Rng, tally: &mut Tally) -> Outcome {
@@ -73,8 +95,8 @@ pub fn check(rng: &mut Rng, tally: &mut Tally) -> Outcome {
             .and_then(|()| same_lent("buffer", &archive.buf, plain.buffer()))
             .and_then(|()| same("model's own answer", &modelled, &reply))
             .and_then(|()| compare(&archive, &model))
+            .and_then(|()| count_reply(tally, operation, &reply, true))
             .map_err(|problem| named(index, operation, problem))?;
-        tally.answer(fun_of(operation), reply.code);
         tally.mark("ring full after an operation", (plain.free() == 0) as u64);
     }
     tally.mark("operations in lists", list.len() as u64);
@@ -122,8 +144,8 @@ pub fn check_tampered(rng: &mut Rng, tally: &mut Tally) -> Outcome {
         let reply = model.apply(operation);
         step(&mut archive, rng, operation, &reply)
             .and_then(|()| compare(&archive, &model))
+            .and_then(|()| count_reply(tally, operation, &reply, false))
             .map_err(|problem| named(index, operation, problem))?;
-        tally.answer(fun_of(operation), reply.code);
     }
     tally.mark("operations in tampered lists", list.len() as u64);
     Ok(())

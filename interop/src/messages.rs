@@ -6,6 +6,7 @@ use crate::guc::constants::*;
 use crate::guc::{self, Packed, Unpacked};
 use crate::lent::words;
 use crate::same::{same, same_lent, Outcome};
+use crate::sets::Set;
 use crate::tally::Tally;
 use model::generate::{fields, message, Rng};
 use model::message::{has_two_fields, known, pack, unpack, Decoded};
@@ -40,12 +41,12 @@ fn expected_unpack(dwords: &[u32]) -> Unpacked {
     Unpacked { code, origin, fence, num_dwords, kind, first, second }
 }
 
-/// Fields to pack, with types outside the table and second fields where there
-/// is none.
+/// Fields to pack, with types outside the table (10 and 12 are 2 and 4 in their
+/// low bits) and second fields where there is none.
 fn some_fields(rng: &mut Rng) -> Decoded {
     let mut f = fields(rng);
     match rng.below(12) {
-        0 => f.kind = rng.pick(&[2, 4, 8, 9, 15, 16, u32::MAX]),
+        0 => f.kind = rng.pick(&[4, 4, 8, 9, 10, 12, 15, 16, u32::MAX]),
         1 => f.kind = rng.edgy(),
         2 | 3 => f.second = rng.edgy(),
         4 => f.first = rng.edgy(),
@@ -62,6 +63,9 @@ fn check_unpack(rng: &mut Rng, tally: &mut Tally, dwords: &[u32]) -> Result<Unpa
     let (stands, _) = of_message(dwords);
     tally.answer_at(Fun::Unpack, got.code, &stands)?;
     tally.input(&stands);
+    if got.code == 0 {
+        tally.accepted(Set::Unpacked, got.kind)?;
+    }
     Ok(got)
 }
 
@@ -77,6 +81,7 @@ pub fn check_fields(rng: &mut Rng, tally: &mut Tally, f: Decoded) -> Outcome {
     same("pack", got, expected_pack(&f)).map_err(|problem| format!("{f:?}: {problem}"))?;
     tally.answer_at(Fun::Pack, got.code, &of_fields(in_order(&f)))?;
     if got.code == 0 {
+        tally.accepted(Set::Packed, f.kind)?;
         let mut dwords = vec![got.header, got.word];
         dwords.extend(rng.words(f.num_dwords as usize - 1));
         let back = check_unpack(rng, tally, &dwords)?;
@@ -101,6 +106,7 @@ pub fn check_message(rng: &mut Rng, tally: &mut Tally, dwords: &[u32]) -> Outcom
         let model = Packed { code: 0, header: dwords[0], word: dwords[1] };
         same("packed after unpacking", again, model)?;
         tally.answer(Fun::Pack, 0);
+        tally.accepted(Set::Packed, u.kind)?;
         tally.mark("unpacked, then packed", 1);
     }
     Ok(())

@@ -1,5 +1,7 @@
 //! Sets of which every member must come up in a run.
 
+use crate::guc::constants::*;
+
 #[derive(Clone, Copy, Debug, PartialEq, Eq)]
 pub enum Set {
     HeaderLength,
@@ -14,10 +16,45 @@ pub enum Set {
     Kind,
     SendLength,
     ReceiveLength,
+    // From here on the members are `TYPES`, of accepted messages.
+    Packed,
+    Unpacked,
+    SendLook,
+    Send,
+    ReceivePublish,
+    Receive,
+    ListSent,
+    ListReceived,
+}
+
+/// The types of the table by name. Not the model's list: that could lack one.
+pub const TYPES: [(u32, &str); 7] = [
+    (GUC_TYPE_REQUEST, "request"),
+    (GUC_TYPE_EVENT, "event"),
+    (GUC_TYPE_FAST_REQUEST, "fast request"),
+    (GUC_TYPE_BUSY, "busy"),
+    (GUC_TYPE_RETRY, "retry"),
+    (GUC_TYPE_FAILURE, "failure"),
+    (GUC_TYPE_SUCCESS, "success"),
+];
+
+impl Set {
+    /// Whether its members are `TYPES`.
+    pub fn of_types(self) -> bool {
+        self as usize >= Set::Packed as usize
+    }
+
+    /// A member by name.
+    fn member(self, index: usize) -> String {
+        if self.of_types() {
+            return TYPES[index].1.to_string();
+        }
+        index.to_string()
+    }
 }
 
 /// Each with its name and how many members it has, in the order of `Set`.
-pub const SETS: [(Set, &str, usize); 12] = [
+pub const SETS: [(Set, &str, usize); 20] = [
     (Set::HeaderLength, "header length H, 0 to 255", 256),
     (Set::NameBit, "bit of an entry's name that alone is not the name sought", 96),
     (Set::ManifestBit, "bit of an entry's name that alone is not HUCP.man", 96),
@@ -30,6 +67,14 @@ pub const SETS: [(Set, &str, usize); 12] = [
     (Set::Kind, "HXG type, 0 to 7", 8),
     (Set::SendLength, "L of a send that is all that is free (less 2)", 255),
     (Set::ReceiveLength, "L of a receive that is all that is used (less 1)", 256),
+    (Set::Packed, "types packed by guc_pack", TYPES.len()),
+    (Set::Unpacked, "types unpacked by guc_unpack", TYPES.len()),
+    (Set::SendLook, "types taken by guc_send_look", TYPES.len()),
+    (Set::Send, "types taken by guc_send", TYPES.len()),
+    (Set::ReceivePublish, "types handed out by guc_receive_publish", TYPES.len()),
+    (Set::Receive, "types handed out by guc_receive", TYPES.len()),
+    (Set::ListSent, "types taken in lists", TYPES.len()),
+    (Set::ListReceived, "types handed out in lists", TYPES.len()),
 ];
 
 /// How often each member came up.
@@ -53,20 +98,25 @@ impl Members {
         }
     }
 
-    /// The least count of a set's members.
+    /// The counts of a set's members.
+    pub fn counts(&self, set: Set) -> &[u64] {
+        &self.0[set as usize]
+    }
+
+    /// The least of them.
     pub fn least(&self, set: Set) -> u64 {
-        self.0[set as usize].iter().copied().min().unwrap_or(0)
+        self.counts(set).iter().copied().min().unwrap_or(0)
     }
 
     /// Members that never came up.
     pub fn missing(&self) -> Vec<String> {
         let mut missing = Vec::new();
         for (set, name, _) in SETS {
-            let counts = self.0[set as usize].iter().enumerate();
-            let never: Vec<usize> =
-                counts.filter(|(_, count)| **count == 0).map(|(index, _)| index).collect();
+            let counts = self.counts(set).iter().enumerate();
+            let never: Vec<String> =
+                counts.filter(|(_, count)| **count == 0).map(|(at, _)| set.member(at)).collect();
             if !never.is_empty() {
-                missing.push(format!("{name}: {never:?}"));
+                missing.push(format!("{name}: [{}]", never.join(", ")));
             }
         }
         missing

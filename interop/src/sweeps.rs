@@ -13,8 +13,9 @@ use model::run::Case;
 type Sweep<T> = fn(&mut Rng) -> Vec<T>;
 
 /// Calls of the channel.
-const CALLS: [Sweep<Case>; 4] = [
+const CALLS: [Sweep<Case>; 5] = [
     generate::every_message_length,
+    generate::every_type,
     generate::every_size,
     generate::every_descriptor,
     generate::every_state,

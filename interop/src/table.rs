@@ -2,7 +2,7 @@
 
 use crate::edges::{BOUNDARIES, TRUNCATED};
 use crate::functions::{number, FUNCTIONS, NUMBERS};
-use crate::sets::SETS;
+use crate::sets::{SETS, TYPES};
 use crate::tally::{Tally, MARKS};
 use std::fmt::Write;
 
@@ -99,12 +99,19 @@ pub fn by_boundary(tally: &Tally) -> String {
     text
 }
 
-/// Counts of the members of sets.
+/// Counts of the members of sets; of types each count.
 pub fn by_set(tally: &Tally) -> String {
     let mut text = String::from("members   each at least    set\n");
     for (set, name, members) in SETS {
         let least = grouped(tally.members.least(set));
-        writeln!(text, "{members:>7}   {least:>13}    {name}").expect("a string takes it");
+        write!(text, "{members:>7}   {least:>13}    {name}").expect("a string takes it");
+        if set.of_types() {
+            let each = TYPES.iter().zip(tally.members.counts(set));
+            let each: Vec<String> =
+                each.map(|((_, kind), count)| format!("{kind} x {}", grouped(*count))).collect();
+            write!(text, ": {}", each.join(", ")).expect("a string takes it");
+        }
+        text.push('\n');
     }
     text
 }

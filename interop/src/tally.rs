@@ -3,7 +3,8 @@
 
 use crate::edges::{Edge, Stands, BOUNDARIES};
 use crate::functions::{place, Fun, FUNCTIONS, NUMBERS};
-use crate::sets::Members;
+use crate::same::Outcome;
+use crate::sets::{Members, Set, TYPES};
 use std::collections::BTreeMap;
 
 /// Things that must come up beside the numbers.
@@ -95,6 +96,15 @@ impl Tally {
     pub fn input(&mut self, stands: &Stands) {
         stands.members.iter().for_each(|(set, index)| self.members.count(*set, *index));
         stands.marks.iter().for_each(|name| self.mark(name, 1));
+    }
+
+    /// Counts the type of an accepted message. One that is not in the table is an
+    /// error even where the archive and the model agree on it.
+    pub fn accepted(&mut self, set: Set, kind: u32) -> Outcome {
+        let place = TYPES.iter().position(|(known, _)| *known == kind);
+        let place = place.ok_or_else(|| format!("{set:?}: type {kind} accepted"))?;
+        self.members.count(set, place);
+        Ok(())
     }
 
     pub fn mark(&mut self, name: &'static str, times: u64) {

@@ -1,12 +1,23 @@
 //! The comparison itself: a short run of every group, and that writes outside
 //! a lent slice and differing values are seen.
 
-use interop::functions::{number, place, FUNCTIONS, NUMBERS};
+use interop::functions::{number, place, Fun, FUNCTIONS, NUMBERS};
 use interop::lent::{bytes, words};
 use interop::runner::{run_group, run_one, GROUPS};
 use interop::same::{same, same_lent, same_slice};
+use interop::sets::Set;
 use interop::tally::Tally;
 use model::generate::Rng;
+
+/// The functions that take or hand out messages, with the sets of their types.
+const WITH_TYPES: [(Fun, Set); 6] = [
+    (Fun::Pack, Set::Packed),
+    (Fun::Unpack, Set::Unpacked),
+    (Fun::SendLook, Set::SendLook),
+    (Fun::Send, Set::Send),
+    (Fun::ReceivePublish, Set::ReceivePublish),
+    (Fun::Receive, Set::Receive),
+];
 
 #[test]
 fn every_group_for_a_moment() {
@@ -16,6 +27,10 @@ fn every_group_for_a_moment() {
         assert!(differences.is_empty(), "seed 3: {differences:?}");
         let calls: u64 = FUNCTIONS.iter().map(|(fun, ..)| tally.calls(*fun)).sum();
         assert!(calls >= cases, "{} counts its calls", group.name);
+        for (fun, set) in WITH_TYPES {
+            let typed: u64 = tally.members.counts(set).iter().sum();
+            assert_eq!(typed, tally.count(fun, 0), "{}: {set:?}, each accepted", group.name);
+        }
     }
 }
 

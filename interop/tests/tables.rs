@@ -7,7 +7,7 @@ use interop::edges::messages::of_message;
 use interop::edges::{Edge, Stands, BOUNDARIES};
 use interop::functions::{Fun, FUNCTIONS};
 use interop::guc::constants::*;
-use interop::sets::{Set, SETS};
+use interop::sets::{Set, SETS, TYPES};
 use interop::tally::Tally;
 use model::channel::{HEAD, STATUS, TAIL};
 use model::message::{known, MALFORMED, TOO_WIDE};
@@ -17,6 +17,7 @@ fn tables_are_in_order() {
     assert!(FUNCTIONS.iter().enumerate().all(|(at, (fun, ..))| *fun as usize == at));
     assert!(BOUNDARIES.iter().enumerate().all(|(at, row)| row.edge as usize == at));
     assert!(SETS.iter().enumerate().all(|(at, (set, ..))| *set as usize == at));
+    assert!(SETS.iter().all(|(set, _, count)| set.of_types() == (*count == TYPES.len())));
     assert_eq!(Edge::Manifest as usize + 1, BOUNDARIES.len());
 }
 
@@ -25,8 +26,9 @@ fn constants_are_the_papers() {
     let places = [GUC_DESC_HEAD, GUC_DESC_TAIL, GUC_DESC_STATUS].map(|place| place as usize);
     assert_eq!(places, [HEAD, TAIL, STATUS]);
     assert_eq!((GUC_BAD_MESSAGE, GUC_BAD_FIELD), (MALFORMED, TOO_WIDE));
-    let types = [GUC_TYPE_REQUEST, GUC_TYPE_EVENT, GUC_TYPE_BUSY, GUC_TYPE_RETRY];
-    assert!(types.into_iter().all(known) && known(GUC_TYPE_FAILURE) && known(GUC_TYPE_SUCCESS));
+    let types = TYPES.map(|(kind, _)| kind);
+    assert_eq!(types, [0, 1, 2, 3, 5, 6, 7]);
+    assert!((0..32).all(|kind| known(kind) == types.contains(&kind)) && !known(4));
     assert_eq!(GUC_STATE_WORDS, GUC_STATE_COPY + GUC_MESSAGE_DWORDS);
     let mut names: Vec<&str> = CONSTANTS.iter().map(|(name, _)| *name).collect();
     names.sort_unstable();
@@ -72,6 +74,23 @@ fn directories_and_messages_stand() {
     assert_eq!(stands.members, [(Set::HeaderLength, 20)]);
     let (stands, well_formed) = of_message(&[0x1234_0001, 0xF000_0000, 0]);
     assert_eq!((side(&stands, Edge::MessageAbove), well_formed), (Some(1), false));
+}
+
+#[test]
+fn types_stand_and_are_counted() {
+    let (stands, well_formed) = of_message(&[0x1234_0001, 0x20AB_4601]);
+    assert_eq!((side(&stands, Edge::MessageType), well_formed), (Some(0), true));
+    let (stands, well_formed) = of_message(&[0x1234_0001, 0xC0AB_4601]);
+    assert_eq!((side(&stands, Edge::MessageType), well_formed), (Some(1), false));
+    let mut tally = Tally::default();
+    assert!(tally.answer_at(Fun::Unpack, 0, &stands).is_err());
+    for kind in [0, 1, 3, 5, 6, 7] {
+        assert!(tally.accepted(Set::Packed, kind).is_ok());
+    }
+    assert!(tally.accepted(Set::Packed, 4).is_err());
+    let line = "types packed by guc_pack: [fast request]".to_string();
+    assert!(tally.missing().contains(&line));
+    assert!(tally.accepted(Set::Packed, 2).is_ok() && !tally.missing().contains(&line));
 }
 
 #[test]

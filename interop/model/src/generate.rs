@@ -12,7 +12,7 @@ mod message;
 mod state;
 mod wraps;
 
-pub use calls::{every_descriptor, every_message_length, every_size, every_state};
+pub use calls::{every_descriptor, every_message_length, every_size, every_state, every_type};
 pub use case::{buffer_length, case, case_for, disallowed_length};
 pub use cpd::{cpd_case, CpdCase};
 pub use css::{css_blob, every_length, one_off, wrapping_images};

@@ -1,5 +1,6 @@
-//! An independent model of 01-scope.md, the other side of differential tests.
-//! Written from the paper alone: plain code, no cleverness, no outside crates.
+//! An independent model of 01-scope.md, the other side of differential tests,
+//! with what T-02 of 02-change-requests.md mends in it. Written from the papers
+//! alone: plain code, no cleverness, no outside crates.
 
 #![forbid(unsafe_code)]
 

@@ -1,5 +1,6 @@
-//! CTB headers and HXG words: section "Messages" of the paper.
-//! Fields are plain u32 numbers, so that fields too wide can be asked for.
+//! CTB headers and HXG words: section "Messages" of the paper, its table as T-02
+//! of document 02 corrects it. Fields are plain u32 numbers, so that fields too
+//! wide can be asked for.
 
 /// Number 4: "message to send or unpack is malformed".
 pub const MALFORMED: u32 = 4;
@@ -8,7 +9,7 @@ pub const TOO_WIDE: u32 = 14;
 
 /// The fields of the first two dwords.
 ///
-/// `first` is the field at 27:16 (types 0, 1, 6) or the only one at 27:0
+/// `first` is the field at 27:16 (types 0, 1, 2, 6) or the only one at 27:0
 /// (types 3, 5, 7). `second` is the field at 15:0; types with one field have
 /// none: unpacking gives 0 and packing doesn't look at it.
 #[derive(Clone, Copy, Debug, PartialEq, Eq, Default)]
@@ -56,14 +57,21 @@ pub fn kind(word: u32) -> u32 {
     (word >> 28) & 7
 }
 
-/// "Types 2 and 4 are unknown."
+/// "Correct the table: six bodies become seven".
+pub const TYPES: [u32; 7] = [0, 1, 2, 3, 5, 6, 7];
+
+/// "only type 4 stays unknown."
+pub const UNKNOWN: u32 = 4;
+
+/// Whether the table has this type.
 pub fn known(kind: u32) -> bool {
-    matches!(kind, 0 | 1 | 3 | 5 | 6 | 7)
+    TYPES.contains(&kind)
 }
 
-/// Types 0, 1 and 6 have two fields, at 27:16 and 15:0; 3, 5 and 7 have one.
+/// Types 0, 1 and 6 have two fields, at 27:16 and 15:0, and so has type 2, "a
+/// fast request, which [...] is laid out as a request"; 3, 5 and 7 have one.
 pub fn has_two_fields(kind: u32) -> bool {
-    matches!(kind, 0 | 1 | 6)
+    matches!(kind, 0 | 1 | 2 | 6)
 }
 
 /// "Well formed: format 0, reserved 0, NUM_DWORDS 1 to 255, and a known HXG
@@ -81,7 +89,7 @@ pub fn is_message(dwords: &[u32]) -> bool {
 
 /// "Packing gives the first two dwords and refuses any field too wide for its
 /// place and NUM_DWORDS 0." A type code outside the table is refused as well:
-/// the paper's six bodies can't say it.
+/// the seven bodies can't say it.
 pub fn pack(fields: &Decoded) -> Result<(u32, u32), u32> {
     let header_fits = fields.fence <= 0xFFFF && (1..=0xFF).contains(&fields.num_dwords);
     let word_fits = fields.origin <= 1 && known(fields.kind);

@@ -3,7 +3,7 @@
 
 use model::channel::{HEAD, TAIL};
 use model::generate::{buffer_length, operations, output, Rng};
-use model::message::total_length;
+use model::message::{kind, total_length, TYPES};
 use model::plain::{Operation, Plain, Reply};
 use model::run::Channel;
 
@@ -12,6 +12,8 @@ use model::run::Channel;
 struct Tally {
     operations: u64,
     codes: [u64; 22],
+    /// Messages received, or unread at the end, by type.
+    kinds: [u64; 8],
     wraps: u64,
     full: u64,
 }
@@ -147,6 +149,7 @@ fn run(rng: &mut Rng, n: usize, count: usize, tally: &mut Tally) {
     }
     whole.received.extend(unread(&channel));
     assert_eq!(whole.received, whole.published, "received in order, then unread");
+    whole.received.iter().for_each(|message| tally.kinds[kind(message[1]) as usize] += 1);
     tally.wraps += plain.published() / n as u64;
 }
 
@@ -164,7 +167,10 @@ fn lists_against_the_plain_channel() {
         run(&mut rng, n, count, &mut tally);
     }
     println!("{} operations, {} wraps, full after {}", tally.operations, tally.wraps, tally.full);
-    println!("answers: {:?}", tally.codes);
+    println!("answers: {:?}, types: {:?}", tally.codes, tally.kinds);
+    for kind in 0..8 {
+        assert_eq!(tally.kinds[kind as usize] > 1000, TYPES.contains(&kind), "type {kind}");
+    }
     for code in [0, 3, 4, 5, 10, 11, 12] {
         assert!(tally.codes[code] > 1000, "number {code} is too rare");
     }

@@ -3,7 +3,7 @@
 
 use model::channel::{Answer, State, HEAD, STATUS, TAIL};
 use model::generate::{case_for, cpd_case, css_blob, fields, message, well_formed_of, Rng};
-use model::message::{is_message, pack, unpack};
+use model::message::{is_message, pack, unpack, TYPES};
 use model::run::{Case, Op};
 use model::{cpd, css};
 
@@ -90,10 +90,12 @@ fn every_number_of_every_call() {
 fn every_number_of_packing() {
     let mut rng = Rng::new(22);
     let (mut packed, mut unpacked) = (0, 0);
+    let mut kinds = [[0u32; 2]; 8];
     for _ in 0..20000 {
         let asked = fields(&mut rng);
         if let Ok((header, word)) = pack(&asked) {
             packed += 1;
+            kinds[asked.kind as usize][0] += 1;
             let mut whole = well_formed_of(&mut rng, asked.num_dwords as usize + 1);
             (whole[0], whole[1]) = (header, word);
             assert_eq!(unpack(&whole), Ok(asked));
@@ -101,10 +103,12 @@ fn every_number_of_packing() {
         let dwords = message(&mut rng);
         if let Ok(fields) = unpack(&dwords) {
             unpacked += 1;
+            kinds[fields.kind as usize][1] += 1;
             assert_eq!(pack(&fields), Ok((dwords[0], dwords[1])));
         }
     }
-    println!("packed {packed}, unpacked {unpacked} of 20000");
+    println!("packed {packed}, unpacked {unpacked} of 20000, by type {kinds:?}");
+    assert!(TYPES.iter().all(|&kind| kinds[kind as usize].iter().all(|&count| count > 1000)));
     assert!((5000..18000).contains(&packed) && (5000..18000).contains(&unpacked));
 }
 

@@ -1,4 +1,5 @@
-//! The paper's "Both sides of each line": messages and the channel.
+//! The paper's "Both sides of each line": messages and the channel. Beside them
+//! the type that T-02 adds, and the one that stays unknown.
 
 use model::channel::*;
 use model::message::*;
@@ -32,12 +33,47 @@ fn header_and_words() {
     assert_eq!(pack(&Decoded { origin: 2, ..success }), Err(14));
     assert_eq!(unpack(&[0x1234_0001, 0xE0AB_0010]), Ok(failure));
     assert_eq!(unpack(&[0x1234_0001]), Err(4));
-    assert_eq!(unpack(&[0x1234_0001, 0x2000_0000]), Err(4));
-    assert_eq!(unpack(&[0x1234_0001, 0x4000_0000]), Err(4));
     assert_eq!(unpack(&[0x1234_0101, 0xF000_0000]), Err(4));
     assert_eq!(unpack(&[0x1234_1001, 0xF000_0000]), Err(4));
     assert_eq!(unpack(&[0x1234_0001, 0xF000_0000, 0]), Err(4));
     assert_eq!(unpack(&[0x1234_0000, 0xF000_0000]), Err(4));
+}
+
+#[test]
+fn fast_request_and_type_4() {
+    let (fence, num_dwords) = (0x1234, 1);
+    let fast = Decoded { origin: 0, fence, num_dwords, kind: 2, first: 0x0AB, second: 0x4601 };
+    assert_eq!(pack(&fast), Ok((0x1234_0001, 0x20AB_4601)));
+    assert_eq!(unpack(&[0x1234_0001, 0x20AB_4601]), Ok(fast));
+    assert_eq!(unpack(&[0x1234_0001, 0xA0AB_4601]), Ok(Decoded { origin: 1, ..fast }));
+    assert_eq!(pack(&Decoded { first: 0xFFF, second: 0xFFFF, ..fast }).unwrap().1, 0x2FFF_FFFF);
+    assert_eq!(pack(&Decoded { first: 0x1000, ..fast }), Err(14));
+    assert_eq!(pack(&Decoded { second: 0x1_0000, ..fast }), Err(14));
+    assert_eq!(unpack(&[0x1234_0001, 0x4000_0000]), Err(4));
+    assert_eq!(unpack(&[0x1234_0001, 0xC0AB_4601]), Err(4));
+}
+
+/// The mended rule where a send's message is judged, its copy, and what is received.
+#[test]
+fn fast_request_in_the_channel() {
+    let (desc, buf) = (&mut vec![7; 16], &mut vec![0; 1024]);
+    let (_, sender, receiver) = open(desc, buf);
+    let refused = Answer { code: 4, len: 0, next: sender };
+    for word in [0x4000_0000, 0xC0AB_4601] {
+        assert_eq!(send_look(&sender, desc, buf, &[0x1234_0002, word, 5]), refused);
+        assert_eq!(send_whole(&sender, desc, buf, &[0x1234_0002, word, 5]), refused);
+    }
+    let fast = [0x1234_0002, 0x20AB_4601, 5];
+    let mut active = send_look(&sender, desc, buf, &fast).next;
+    assert_eq!(send_move(&active, desc, buf).code, 0);
+    active.copy[1] = 0x40AB_4601;
+    assert_eq!(send_move(&active, desc, buf).code, 3);
+    active.moved = 3;
+    assert_eq!(send_publish(&active, desc, buf).code, 3);
+    assert_eq!(send_whole(&sender, desc, buf, &fast).code, 0);
+    let mut out = vec![9; 256];
+    let got = receive_whole(&receiver, desc, buf, &mut out);
+    assert_eq!((got.code, got.len, &out[..4]), (0, 3, [fast[0], fast[1], 5, 9].as_slice()));
 }
 
 #[test]
@@ -126,10 +162,18 @@ fn truncated_in_the_ring() {
 
 #[test]
 fn malformed_in_the_ring() {
-    // A lone header with NUM_DWORDS 0: L = 1, copied by the look alone.
-    for (header, length) in [(0u32, 1u32), (0x0000_1002, 3), (0x0000_0102, 3)] {
+    // A lone header with NUM_DWORDS 0: L = 1, copied by the look alone. The last
+    // two are malformed by their type only.
+    let messages = [
+        (0u32, 0u32, 1u32),
+        (0x0000_1002, 0, 3),
+        (0x0000_0102, 0, 3),
+        (0x0000_0002, 0x4000_0000, 3),
+        (0x0000_0002, 0xC0AB_4601, 3),
+    ];
+    for (header, word, length) in messages {
         let mut buf = vec![0; 1024];
-        buf[1023] = header;
+        (buf[1023], buf[0]) = (header, word);
         let mut desc = descriptor(1023, 10, 0);
         let mut out = vec![5; 300];
         let answer = receive_whole(&State::idle(1024, 1023), &mut desc, &buf, &mut out);

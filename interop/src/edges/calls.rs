@@ -1,7 +1,7 @@
 //! At which boundaries a single channel call stands, worked out from what it is
 //! lent, number by number: one counts only where no lower number applies.
 
-use super::messages::of_message;
+use super::messages::{known_type, of_message};
 use super::{Edge, Stands};
 use crate::sets::Set;
 use model::channel::State;
@@ -39,14 +39,29 @@ pub fn of_call(case: &Case) -> Stands {
         }
         Op::SendMove | Op::ReceiveMove => of_progress(&mut stands, Edge::Move, &case.state),
         Op::SendPublish => of_progress(&mut stands, Edge::Publish, &case.state),
-        Op::ReceivePublish => {
-            if of_output(&mut stands, case) {
-                of_progress(&mut stands, Edge::Publish, &case.state);
-            }
-        }
+        Op::ReceivePublish => of_receive_publish(&mut stands, case),
         Op::Open => {}
     }
     stands
+}
+
+/// Numbers 5, 12 and 13 of a receive's publish.
+fn of_receive_publish(stands: &mut Stands, case: &Case) {
+    let State { len, moved, copy, .. } = &case.state;
+    if !of_output(stands, case) {
+        return;
+    }
+    of_progress(stands, Edge::Publish, &case.state);
+    if moved == len {
+        of_received(stands, copy[0], copy[1]);
+    }
+}
+
+/// Number 13: the type decides where the header is good.
+fn of_received(stands: &mut Stands, header: u32, word: u32) {
+    if header & 0xFF00 == 0 && header & 0xFF > 0 {
+        stands.at(Edge::ReceivedType, (!known_type(word)) as u64, [0, 1]);
+    }
 }
 
 /// Number 5. Whether it passes.
@@ -60,45 +75,53 @@ fn of_progress(stands: &mut Stands, edge: Edge, state: &State) {
     stands.up_to(edge, state.moved as u64, state.len as u64);
 }
 
-/// Whether L is in range and agrees with the copied header; of a send also
-/// whether the copy is well formed.
+/// Whether L is in range and agrees with the copied header, which of a send must
+/// itself be good.
 fn length_agrees(case: &Case) -> bool {
-    let copy = &case.state.copy;
-    let header_says = 1 + (copy[0] & 0xFF);
-    if !case.op.sends() {
-        return case.state.len == header_says;
+    let header = case.state.copy[0];
+    let good = header & 0xFF00 == 0 && header & 0xFF > 0;
+    case.state.len == 1 + (header & 0xFF) && (good || !case.op.sends())
+}
+
+/// Number 3 of an active state: what has moved, and of a send the copy's type,
+/// each where the other fits and the state is `placed`. Whether both do.
+fn of_active(stands: &mut Stands, case: &Case, placed: bool) -> bool {
+    if !length_agrees(case) {
+        return false;
     }
-    case.state.len == header_says && of_message(&copy[..header_says as usize]).1
+    let (len, moved) = (case.state.len as u64, case.state.moved as u64);
+    let least = if case.op.sends() { 0 } else { 1 };
+    let moved_fits = (least..=len).contains(&moved);
+    let type_fits = !case.op.sends() || known_type(case.state.copy[1]);
+    if placed && type_fits {
+        stands.at(Edge::StateMoved, moved, [len, len + 1]);
+    }
+    if placed && least == 1 {
+        stands.at(Edge::StateFirst, moved, [0, 1]);
+    }
+    if placed && moved_fits {
+        stands.at(Edge::StateType, (!type_fits) as u64, [0, 1]);
+    }
+    moved_fits && type_fits
 }
 
 /// Number 3: each of a state's words decides only where the others fit.
 /// Whether all of them do.
 fn of_state(stands: &mut Stands, case: &Case, n: u64) -> bool {
     let State { n: made_for, own, len, moved, copy } = &case.state;
-    let (len, moved) = (*len as u64, *moved as u64);
     let (own_fits, n_fits) = ((*own as u64) < n, *made_for as u64 == n);
-    let moved_fits = if case.op.goes_on() {
-        if !length_agrees(case) {
-            return false;
-        }
-        let least = if case.op.sends() { 0 } else { 1 };
-        if own_fits && n_fits {
-            stands.at(Edge::StateMoved, moved, [len, len + 1]);
-        }
-        if own_fits && n_fits && least == 1 {
-            stands.at(Edge::StateFirst, moved, [0, 1]);
-        }
-        (least..=len).contains(&moved)
+    let rest_fits = if case.op.goes_on() {
+        of_active(stands, case, own_fits && n_fits)
     } else {
-        len == 0 && moved == 0 && copy.iter().all(|dword| *dword == 0)
+        *len == 0 && *moved == 0 && copy.iter().all(|dword| *dword == 0)
     };
-    if moved_fits && n_fits {
+    if rest_fits && n_fits {
         stands.at(Edge::StateOwn, *own as u64, [n - 1, n]);
     }
-    if moved_fits && own_fits {
+    if rest_fits && own_fits {
         stands.at(Edge::StateN, (!n_fits) as u64, [0, 1]);
     }
-    moved_fits && n_fits && own_fits
+    rest_fits && n_fits && own_fits
 }
 
 /// Numbers 6 to 8 of a look, then the rest.
@@ -139,10 +162,15 @@ fn of_lengths(stands: &mut Stands, case: &Case, n: u64, used: u64) {
     }
     stands.at(Edge::Pending, used, [0, 1]);
     if used > 0 {
-        let length = 1 + (case.buf[case.desc[0] as usize] & 0xFF) as u64;
+        let head = case.desc[0] as usize;
+        let (header, word) = (case.buf[head], case.buf[(head + 1) % case.buf.len()]);
+        let length = 1 + (header & 0xFF) as u64;
         stands.at(Edge::Used, length, [used, used + 1]);
         if length == used {
             stands.member(Set::ReceiveLength, used as usize - 1);
+        }
+        if length <= used {
+            of_received(stands, header, word);
         }
     }
 }

@@ -3,12 +3,13 @@
 use super::{Edge, Stands};
 use crate::sets::Set;
 
-/// Types with two fields, and those with one.
-const TWO: [u32; 3] = [0, 1, 6];
+/// Types with two fields, and those with one. A second opinion: it must not
+/// follow the model's list if that is wrong.
+const TWO: [u32; 4] = [0, 1, 2, 6];
 const ONE: [u32; 3] = [3, 5, 7];
 
-/// Whether bits 30:28 are a type of the table.
-fn known_type(word: u32) -> bool {
+/// Whether bits 30:28 are a type of the table; if not, they are 4.
+pub fn known_type(word: u32) -> bool {
     let kind = (word >> 28) % 8;
     TWO.contains(&kind) || ONE.contains(&kind)
 }
@@ -27,6 +28,7 @@ pub fn of_message(msg: &[u32]) -> (Stands, bool) {
     if agrees && num_dwords > 0 {
         if plain {
             stands.member(Set::Kind, ((msg[1] >> 28) % 8) as usize);
+            stands.at(Edge::MessageType, (!known) as u64, [0, 1]);
         }
         if known && (header & 0xFF00).count_ones() == 1 {
             stands.member(Set::HeaderBit, (header & 0xFF00).trailing_zeros() as usize - 8);
@@ -47,10 +49,14 @@ pub fn of_message(msg: &[u32]) -> (Stands, bool) {
 }
 
 /// The boundaries of fields to pack, in the order origin, fence, NUM_DWORDS,
-/// type, first, second. Each decides only where the others fit.
+/// type, first, second. Each decides only where the others fit, but the type
+/// before all else; of the unknown ones 4 alone has room in a word.
 pub fn of_fields(fields: [u32; 6]) -> Stands {
     let mut stands = Stands::default();
     let [origin, fence, num_dwords, kind, first, second] = fields.map(u64::from);
+    let known = TWO.contains(&fields[3]) || ONE.contains(&fields[3]);
+    stands.at(Edge::PackType, if known { 0 } else { kind }, [0, 4]);
+    stands.at(Edge::PackWide, kind, [7, 8]);
     let (first_edge, second_edge, tops) = if TWO.contains(&fields[3]) {
         (Edge::PackFirst, Edge::PackSecond, [0xFFF, 0xFFFF])
     } else if ONE.contains(&fields[3]) {

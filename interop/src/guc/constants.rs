@@ -47,6 +47,7 @@ constants! {
     GUC_STATE_COPY = 4,
     GUC_TYPE_REQUEST = 0,
     GUC_TYPE_EVENT = 1,
+    GUC_TYPE_FAST_REQUEST = 2,
     GUC_TYPE_BUSY = 3,
     GUC_TYPE_RETRY = 5,
     GUC_TYPE_FAILURE = 6,

@@ -1,8 +1,9 @@
 //! Single calls made on purpose at the channel's boundaries: every L against
-//! what is free and used, every bit of STATUS, every size, every word of a state.
+//! what is free and used, every type, every bit of STATUS, every size, every word
+//! of a state.
 
 use super::case::{buffer_length, lay, sound};
-use super::message::well_formed_of;
+use super::message::{well_formed_of, with_type};
 use super::Rng;
 use crate::channel::{State, HEAD, STATUS, TAIL};
 use crate::run::{Case, Op};
@@ -42,6 +43,35 @@ pub fn every_message_length(rng: &mut Rng) -> Vec<Case> {
             let op = rng.pick(&[Op::SendLook, Op::SendWhole]);
             cases.push(with_used(rng, op, length.max(2), 1023 - length.max(2) + more));
         }
+    }
+    cases
+}
+
+/// A call whose message is good but for its type, which may be any: the message
+/// to send, the one in the ring, or the copy that a move or a publish finds.
+fn of_type(rng: &mut Rng, op: Op, kind: u32) -> Case {
+    let length = rng.between(2, 20) as usize;
+    let mut case = with_used(rng, op, length, length);
+    let mut message = well_formed_of(rng, length);
+    message[1] = with_type(message[1], kind);
+    if op.goes_on() {
+        let left = matches!(op, Op::SendMove | Op::ReceiveMove) as u32;
+        let len = length as u32;
+        case.state = State { len, moved: len - left, ..State::idle(1024, case.state.own) };
+        case.state.copy[..length].copy_from_slice(&message);
+    } else if op.sends() {
+        case.msg = message;
+    } else {
+        lay(&mut case.buf, case.desc[HEAD] as usize, &message);
+    }
+    case
+}
+
+/// Each type, known or not, for each call that is lent or finds a message.
+pub fn every_type(rng: &mut Rng) -> Vec<Case> {
+    let mut cases = Vec::new();
+    for op in Op::ALL.into_iter().filter(|op| *op != Op::Open) {
+        cases.extend((0..8).map(|kind| of_type(rng, op, kind)));
     }
     cases
 }

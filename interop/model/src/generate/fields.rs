@@ -1,9 +1,9 @@
 //! Messages and fields made on purpose: every length, every type, every bit of a
 //! header that must be 0, every bit of every field.
 
-use super::message::well_formed_of;
+use super::message::{well_formed_of, with_type};
 use super::Rng;
-use crate::message::Decoded;
+use crate::message::{has_two_fields, Decoded, TYPES};
 
 /// Messages one dword short, right and one too long, of every length; with each
 /// type; with each bit of format and reserved set; a lone header.
@@ -22,7 +22,7 @@ pub fn every_message(rng: &mut Rng) -> Vec<Vec<u32>> {
         message[0] |= 1 << (8 + place);
         messages.push(message);
         let mut message = well_formed_of(rng, length);
-        message[1] = (message[1] & 0x8FFF_FFFF) | place << 28;
+        message[1] = with_type(message[1], place);
         messages.push(message);
     }
     messages
@@ -32,8 +32,8 @@ pub fn every_message(rng: &mut Rng) -> Vec<Vec<u32>> {
 /// of its width, to one more than that, and to 0.
 pub fn every_field(rng: &mut Rng) -> Vec<Decoded> {
     let mut all = Vec::new();
-    for kind in [0, 1, 3, 5, 6, 7] {
-        let two = matches!(kind, 0 | 1 | 6);
+    for kind in TYPES {
+        let two = has_two_fields(kind);
         let widths = [1, 16, 8, if two { 12 } else { 28 }, if two { 16 } else { 0 }];
         for (place, width) in widths.into_iter().enumerate() {
             let bits = (0..32).map(|bit| 1u32 << bit);

@@ -2,12 +2,17 @@
 //! fields to pack, some too wide.
 
 use super::Rng;
-use crate::message::Decoded;
+use crate::message::{has_two_fields, Decoded, TYPES, UNKNOWN};
+
+/// An HXG word with this type in the place of its own.
+pub(super) fn with_type(word: u32, kind: u32) -> u32 {
+    (word & 0x8FFF_FFFF) | kind << 28
+}
 
 /// An HXG word of a known type.
 fn known_word(rng: &mut Rng) -> u32 {
-    let kind = rng.pick(&[0u32, 1, 3, 5, 6, 7]);
-    (rng.word() & 0x8FFF_FFFF) | kind << 28
+    let kind = rng.pick(&TYPES);
+    with_type(rng.word(), kind)
 }
 
 /// A length of a well-formed message, 2 to 256, the ends more often.
@@ -41,7 +46,7 @@ pub fn near_malformed(rng: &mut Rng) -> Vec<u32> {
     match rng.below(5) {
         0 => message[0] |= (rng.between(1, 15) as u32) << 12,
         1 => message[0] |= (rng.between(1, 15) as u32) << 8,
-        2 => message[1] = (message[1] & 0x8FFF_FFFF) | rng.pick(&[2u32, 4]) << 28,
+        2 => message[1] = with_type(message[1], UNKNOWN),
         3 => {
             message[0] &= 0xFFFF_0000;
             message.truncate(1);
@@ -101,8 +106,8 @@ fn field(rng: &mut Rng, bits: u32, may_break: bool) -> u32 {
 
 /// Fields to pack: about half fit.
 pub fn fields(rng: &mut Rng) -> Decoded {
-    let kind = rng.pick(&[0u32, 1, 3, 5, 6, 7]);
-    let two = matches!(kind, 0 | 1 | 6);
+    let kind = rng.pick(&TYPES);
+    let two = has_two_fields(kind);
     let broken = if rng.chance(1, 2) { rng.below(5) } else { 5 };
     let second = field(rng, 16, broken == 4);
     Decoded {

@@ -1,8 +1,9 @@
 //! States of the two sides: fitting, with one thing broken, and random.
 
-use super::message::{near_malformed, well_formed};
+use super::message::{near_malformed, well_formed, with_type};
 use super::Rng;
 use crate::channel::State;
+use crate::message::UNKNOWN;
 
 /// An active state over this message, `moved` dwords on; only the first
 /// `copied` dwords are in the copy, junk or zeros after them.
@@ -98,7 +99,7 @@ fn break_active(rng: &mut Rng, state: &mut State) {
         4 => state.moved = rng.pick(&[0, 257, u32::MAX, 1 << 31, state.len.wrapping_add(256)]),
         5 => state.copy[0] ^= 1 << rng.below(8),
         6 => state.copy[0] |= 1 << rng.between(8, 15),
-        7 => state.copy[1] = (state.copy[1] & 0x8FFF_FFFF) | rng.pick(&[2u32, 4]) << 28,
+        7 => state.copy[1] = with_type(state.copy[1], UNKNOWN),
         8 => {
             // L = 1 that agrees with its header: too short for a send only.
             state.copy[0] &= 0xFFFF_0000;
