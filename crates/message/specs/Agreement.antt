@@ -26,7 +26,7 @@ pub record Agreement : Type 0 where
   pub only-4-unknown : (w : ℕ) → (known w ≡ true) ↔ (fieldOf type w ≡ 4 → ⊥)
   -- 'a fast request, which wants no success reply and is laid out as a request': a dword holds data and action of both in the same places
   pub as-a-request : (d a w : ℕ) → holds (carried (FastRequest d a)) w ≡ holds (carried (Request d a)) w
-  -- 'Refusals 4 and 13 follow the mended rule': so does each test that gives them
+  -- 'Refusals 4 and 13 follow the mended rule', and so does 3 for a send's copy: the tests that give them
   pub formed : (h w : ℕ) → (wellFormed h w ≡ true) ↔ Formed h w
   pub message : (d : List ℕ) → (isMessage d ≡ true) ↔ ((length d ≡ totalLength (getD d 0 0)) × Formed (getD d 0 0) (getD d 1 0))
   -- 'Unpacking takes a whole message and refuses a malformed one'

@@ -57,7 +57,7 @@ pub fn kind(word: u32) -> u32 {
     (word >> 28) & 7
 }
 
-/// "Correct the table: six bodies become seven".
+/// The types of the table, seven since T-02.
 pub const TYPES: [u32; 7] = [0, 1, 2, 3, 5, 6, 7];
 
 /// "only type 4 stays unknown."
