@@ -5,11 +5,10 @@ use mathlib.Core.List.{List, [], _∷_}
 use mathlib.Core.Option.{Option, none, some, Option·elim}
 use lib.Dec.{eqb, leb}
 use lib.ListN.{length}
-use Rattle.message.specs.Fields.{FieldValue}
-use Rattle.message.specs.Types.{typeOf, carried, ofType}
+use Rattle.message.specs.Fields.{Field, bitsOf, FieldValue}
+use Rattle.message.specs.Types.{typeOf, carried, bodiesFrom, ofType}
 use Rattle.message.specs.Packing.{Answer, originNumber, originOf, packAnswer}
 use Rattle.message.specs.declared.Body.{Body}
-use Rattle.message.specs.declared.Body.the-variants.{Request, Event, FastRequest, Busy, Retry, Failure, Success}
 use Rattle.message.specs.declared.Message.{Message}
 use Rattle.guc.specs.declared.messages.Packed.{Packed}
 use Rattle.guc.specs.declared.messages.Unpacked.{Unpacked}
@@ -20,9 +19,13 @@ use Rattle.guc.specs.declared.messages.Typed.the-variants as typed
 abbrev pub noSuch : ℕ
 noSuch = 101
 
--- the body of a type with its fields, the upper one first, or none
+-- C gives two numbers for the fields of a body: the second is for the one in bits 15:0, the first for the other
+unfoldable pub numberFor : ℕ → ℕ → Field → ℕ
+numberFor first second f = cond (eqb (bitsOf f .high) 15) second first
+
+-- the body of a type with these, or none
 unfoldable pub bodyFor : ℕ → ℕ → ℕ → Option Body
-bodyFor t a b = ofType t (Request a b ∷ Event a b ∷ FastRequest a b ∷ Busy a ∷ Retry a ∷ Failure a b ∷ Success a ∷ [])
+bodyFor t first second = ofType t (bodiesFrom (numberFor first second))
 
 unfoldable pub ofTyped : Typed → Option Body
 ofTyped typed.Unknown = none

@@ -8,7 +8,7 @@ use native.Mathlib.Omega.{arith}
 use lib.Dec.{eqb}
 use borrow.Author.Tests.{eq-eqb, eqb-true, eqb-false}
 use Rattle.message.specs.Fields.{Field, type, fieldOf, FieldValue, holds}
-use Rattle.message.specs.Types.{typeOf, carried, bodyFields, bodies, ofType, bodyOf, someBody, known}
+use Rattle.message.specs.Types.{typeOf, carried, bodyFields, bodiesFrom, bodies, ofType, bodyOf, someBody, known}
 use Rattle.message.specs.declared.Body.{Body}
 use Rattle.message.specs.declared.Body.the-variants.{Request, Event, FastRequest, Busy, Retry, Failure, Success}
 use Rattle.message.proofs.Tests.{and-l, and-r, and-i, cases}
@@ -28,11 +28,11 @@ by-type word p0 p1 p2 p3 p4 p5 p6 p7 =
 
 -- type 4 is unknown, and each other is known
 pub type-4-unknown : (word : ℕ) → known word ≡ true → fieldOf type word ≡ 4 → ⊥
-unfolding known bodyOf bodies ofType typeOf someBody
+unfolding known bodyOf bodiesFrom bodies ofType typeOf someBody
 type-4-unknown word k e = let z : false ≡ true = simp e at k in let y : _≡_ {A = ℕ} 0 1 = cc in omega arith
 
 pub others-known : (word : ℕ) → (fieldOf type word ≡ 4 → ⊥) → known word ≡ true
-unfolding known bodyOf bodies ofType typeOf someBody
+unfolding known bodyOf bodiesFrom bodies ofType typeOf someBody
 others-known word n =
     by-type word (λ e. simp e) (λ e. simp e) (λ e. simp e) (λ e. simp e) (λ e. absurd (n e)) (λ e. simp e) (λ e. simp e) (λ e. simp e)
 
@@ -66,7 +66,7 @@ reads word [] = true
 reads word (b ∷ bs) = holds (carried b) word && reads word bs
 
 bodies-read : (word : ℕ) → reads word (bodies word) ≡ true
-unfolding reads bodies carried holds
+unfolding reads bodiesFrom bodies carried holds
 bodies-read word = simp eqb-self
 
 picked-holds : (word : ℕ) (bs : List Body) (b : Body) → reads word bs ≡ true → ofType (fieldOf type word) bs ≡ some b → holds (bodyFields b) word ≡ true
@@ -98,7 +98,7 @@ module _ (word t : ℕ) (f : Field) (x : ℕ) (es : List FieldValue) (h : holds 
   is-more = holds-rest (f, x) es word (holds-rest (type, t) ((f, x) ∷ es) word h)
 
 pub holds-body : (word : ℕ) (b : Body) → holds (bodyFields b) word ≡ true → bodyOf word ≡ some b
-unfolding bodyFields typeOf carried bodyOf bodies ofType
+unfolding bodyFields typeOf carried bodyOf bodiesFrom bodies ofType
 holds-body word (Request d a) h = simp (is-type _ _ _ _ _ h, is-first _ _ _ _ _ h, holds-first _ _ word (is-more _ _ _ _ _ h))
 holds-body word (Event d a) h = simp (is-type _ _ _ _ _ h, is-first _ _ _ _ _ h, holds-first _ _ word (is-more _ _ _ _ _ h))
 holds-body word (FastRequest d a) h = simp (is-type _ _ _ _ _ h, is-first _ _ _ _ _ h, holds-first _ _ word (is-more _ _ _ _ _ h))

@@ -6,7 +6,7 @@ use mathlib.Core.Bool.{Bool, true, false, cond}
 use mathlib.Core.List.{List, [], _∷_}
 use mathlib.Core.Option.{Option, none, some}
 use lib.Dec.{eqb}
-use Rattle.message.specs.Fields.{requestData, requestAction, eventData, eventAction, fastRequestData, fastRequestAction, busyCounter, retryReason, failureHint, failureError, successData, type, fieldOf, FieldValue}
+use Rattle.message.specs.Fields.{Field, requestData, requestAction, eventData, eventAction, fastRequestData, fastRequestAction, busyCounter, retryReason, failureHint, failureError, successData, type, fieldOf, FieldValue}
 use Rattle.message.specs.declared.Body.{Body}
 use Rattle.message.specs.declared.Body.the-variants.{Request, Event, FastRequest, Busy, Retry, Failure, Success}
 
@@ -34,17 +34,21 @@ carried (Success d) = (successData, d) ∷ []
 unfoldable pub bodyFields : Body → List FieldValue
 bodyFields b = (type, typeOf b) ∷ carried b
 
--- the body of each known type, its fields read from an HXG dword 0
-unfoldable pub bodies : ℕ → List Body
-bodies word =
-    Request (fieldOf requestData word) (fieldOf requestAction word)
-    ∷ Event (fieldOf eventData word) (fieldOf eventAction word)
-    ∷ FastRequest (fieldOf fastRequestData word) (fieldOf fastRequestAction word)
-    ∷ Busy (fieldOf busyCounter word)
-    ∷ Retry (fieldOf retryReason word)
-    ∷ Failure (fieldOf failureHint word) (fieldOf failureError word)
-    ∷ Success (fieldOf successData word)
+-- the body of each known type, by the number of each field
+unfoldable pub bodiesFrom : (Field → ℕ) → List Body
+bodiesFrom numberOf =
+    Request (numberOf requestData) (numberOf requestAction)
+    ∷ Event (numberOf eventData) (numberOf eventAction)
+    ∷ FastRequest (numberOf fastRequestData) (numberOf fastRequestAction)
+    ∷ Busy (numberOf busyCounter)
+    ∷ Retry (numberOf retryReason)
+    ∷ Failure (numberOf failureHint) (numberOf failureError)
+    ∷ Success (numberOf successData)
     ∷ []
+
+-- the same, with the fields read from an HXG dword 0
+unfoldable pub bodies : ℕ → List Body
+bodies word = bodiesFrom (λ f. fieldOf f word)
 
 -- the body of that type among some, or none
 unfoldable pub ofType : ℕ → List Body → Option Body

@@ -4,7 +4,7 @@ use Prim.{tt}
 use mathlib.Core.Path.{refl}
 use mathlib.Core.Option.{Option·elim}
 use Rattle.message.specs.Fields.{fit, dword}
-use Rattle.message.specs.Types.{typeOf, carried, bodyFields, bodies, ofType, bodyOf, someBody, known}
+use Rattle.message.specs.Types.{typeOf, carried, bodyFields, bodiesFrom, bodies, ofType, bodyOf, someBody, known}
 use Rattle.message.specs.Header.{wellFormed, isMessage}
 use Rattle.message.specs.Packing.{originNumber, originOf, decoded, unpack, headerFields, hxgFields, pack, refusing}
 use Rattle.ring.specs.Ring.{allowed, used, free}
@@ -33,7 +33,7 @@ unfolding
     Each table freshChannel once twice thrice full stores around
     Inputs.countUp Inputs.dwords Inputs.descriptorWith Inputs.buffer Inputs.bufferOf Inputs.bufferWith
     Inputs.littles Inputs.cssHeader Inputs.image Inputs.entryBytes Inputs.directory
-    fit dword typeOf carried bodyFields bodies ofType bodyOf someBody known wellFormed isMessage originNumber originOf
+    fit dword typeOf carried bodyFields bodiesFrom bodies ofType bodyOf someBody known wellFormed isMessage originNumber originOf
     decoded unpack Option·elim headerFields hxgFields pack refusing
     allowed used free zeros allZero idle activeSend need firstNeeds lookNeeds sendLookNeeds receiveLookNeeds marked openNumber openBy
     sendDecision Send.lookBy Send.moveNumber Send.moveBy Send.publishNumber Send.publishBy moves Send.afterLook receiveDecision Receive.lookBy Receive.wholeNumber Receive.wholeBy

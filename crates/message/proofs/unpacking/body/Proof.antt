@@ -3,37 +3,37 @@
 use mathlib.Core.Path.{_∙_}
 use native.Mathlib.Nat.{div-one}
 use borrow.Author.Needs.{needs}
-use Rattle.message.specs.Types.{typeOf, bodies, ofType, bodyOf}
+use Rattle.message.specs.Types.{typeOf, bodiesFrom, bodies, ofType, bodyOf}
 use Rattle.message.proofs.Types.{else-success}
 use Rattle.message.proofs.unpacking.body.Statement.{statement}
 use Rattle.message.proofs.unpacking.body.Tie as tie
 
 returns : tie.Need-returns
-unfolding bodyOf bodies ofType typeOf
+unfolding bodyOf bodiesFrom bodies ofType typeOf
 returns c = simp (← c .before .hxg-type .ensures, c .match .keys1, div-one)
 
 returns-2 : tie.Need-returns-2
-unfolding bodyOf bodies ofType typeOf
+unfolding bodyOf bodiesFrom bodies ofType typeOf
 returns-2 c = simp (← c .before .hxg-type .ensures, c .match .keys2, div-one)
 
 returns-3 : tie.Need-returns-3
-unfolding bodyOf bodies ofType typeOf
+unfolding bodyOf bodiesFrom bodies ofType typeOf
 returns-3 c = simp (← c .before .hxg-type .ensures, c .match .keys3, div-one)
 
 returns-4 : tie.Need-returns-4
-unfolding bodyOf bodies ofType typeOf
+unfolding bodyOf bodiesFrom bodies ofType typeOf
 returns-4 c = simp (← c .before .hxg-type .ensures, c .match .keys4, div-one)
 
 returns-5 : tie.Need-returns-5
-unfolding bodyOf bodies ofType typeOf
+unfolding bodyOf bodiesFrom bodies ofType typeOf
 returns-5 c = simp (← c .before .hxg-type .ensures, c .match .keys5, div-one)
 
 returns-6 : tie.Need-returns-6
-unfolding bodyOf bodies ofType typeOf
+unfolding bodyOf bodiesFrom bodies ofType typeOf
 returns-6 c = simp (← c .before .hxg-type .ensures, c .match .keys6, div-one)
 
 returns-7 : tie.Need-returns-7
-unfolding bodyOf bodies ofType typeOf
+unfolding bodyOf bodiesFrom bodies ofType typeOf
 returns-7 c =
     let t = c .before .hxg-type .ensures in
     let n = c .match .rest in
