@@ -46,7 +46,7 @@ fn expected_unpack(dwords: &[u32]) -> Unpacked {
 fn some_fields(rng: &mut Rng) -> Decoded {
     let mut f = fields(rng);
     match rng.below(12) {
-        0 => f.kind = rng.pick(&[4, 4, 8, 9, 10, 12, 15, 16, u32::MAX]),
+        0 => f.kind = rng.pick(&[4, 8, 9, 10, 12, 15, 16, u32::MAX]),
         1 => f.kind = rng.edgy(),
         2 | 3 => f.second = rng.edgy(),
         4 => f.first = rng.edgy(),

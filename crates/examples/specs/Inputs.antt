@@ -41,7 +41,7 @@ buffer = untouched 1024
 
 -- the same with some dwords from place 8 on, and with a header alone
 unfoldable pub bufferOf : List ℕ → List ℕ
-bufferOf some = untouched 8 ++ some ++ untouched (1016 - length some)
+bufferOf front = untouched 8 ++ front ++ untouched (1016 - length front)
 
 unfoldable pub bufferWith : ℕ → List ℕ
 bufferWith header = bufferOf (header ∷ [])

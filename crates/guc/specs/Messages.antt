@@ -19,9 +19,9 @@ use Rattle.guc.specs.declared.messages.Typed.the-variants as typed
 abbrev pub noSuch : ℕ
 noSuch = 101
 
--- C gives two numbers for the fields of a body: the second is for the one in bits 15:0, the first for the other
+-- C gives two numbers for the fields of a body: the second is for a field in bits 15:0, the first for any other
 unfoldable pub numberFor : ℕ → ℕ → Field → ℕ
-numberFor first second f = cond (eqb (bitsOf f .high) 15) second first
+numberFor first second f = cond (eqb (bitsOf f .high) 15 && eqb (bitsOf f .low) 0) second first
 
 -- the body of a type with these, or none
 unfoldable pub bodyFor : ℕ → ℕ → ℕ → Option Body

@@ -14,7 +14,7 @@ use Rattle.message.specs.Fields.{fence, numDwords, origin, fieldOf, Fiel
 use Rattle.message.specs.Types.{carried, bodyOf, known}
 use Rattle.message.specs.Header.{isMessage}
 use Rattle.message.specs.Packing.{originNumber, originOf, decoded, unpack, headerFields, hxgFields, pack, refusing}
-use Rattle.message.specs.Agreement.{Formed, Agreement}
+use Rattle.message.specs.Agreement.{MendedRule, Agreement}
 use Rattle.message.specs.declared.Origin.{Origin}
 use Rattle.message.specs.declared.Origin.the-variants.{Host, Guc}
 use Rattle.message.specs.declared.Body.{Body}
@@ -27,12 +27,12 @@ use Rattle.message.proofs.Formed.{WellFormed, well-formed, well-formed-
 use Rattle.message.proofs.PackLaws.{header-tiles, hxg-tiles, unpack-some, unpack-none}
 
 -- the origin's bit, there and back
-origin-back : (o : Origin) → originOf (originNumber o) ≡ o
+pub origin-back : (o : Origin) → originOf (originNumber o) ≡ o
 unfolding originOf originNumber
 origin-back Host = refl
 origin-back Guc = refl
 
-origin-there : (bit : ℕ) → bit < 2 → originNumber (originOf bit) ≡ bit
+pub origin-there : (bit : ℕ) → bit < 2 → originNumber (originOf bit) ≡ bit
 unfolding originOf originNumber
 origin-there bit l = go (eqb bit 0) refl
   where
@@ -188,11 +188,11 @@ packs-from m h w lh lw u =
     rw (packs-i m (u .0) (holds-fit (headerFields m) h (u .1)) (holds-fit (hxgFields m) w (u .2)), eh, ew)
 
 -- a header and an HXG dword 0 are well formed by the paper's list exactly when they are by the test, type 4 being the unknown one
-formed-from : (h w : ℕ) → WellFormed h w → Formed h w
-formed-from h w f = (f .format-zero, f .reserved-zero, f .low, f .high, type-4-unknown w (f .known-type))
+rule-from : (h w : ℕ) → WellFormed h w → MendedRule h w
+rule-from h w f = (f .format-zero, f .reserved-zero, f .low, f .high, type-4-unknown w (f .known-type))
 
-formed-to : (h w : ℕ) → Formed h w → WellFormed h w
-formed-to h w f = record { format-zero = f .0; reserved-zero = f .1; low = f .2; high = f .3; known-type = others-known w (f .4) }
+rule-to : (h w : ℕ) → MendedRule h w → WellFormed h w
+rule-to h w f = record { format-zero = f .0; reserved-zero = f .1; low = f .2; high = f .3; known-type = others-known w (f .4) }
 
 as-a-request : (d a w : ℕ) → holds (carried (FastRequest d a)) w ≡ holds (carried (Request d a)) w
 unfolding holds carried
@@ -205,11 +205,11 @@ agreement =
       unpacking-answers = λ d. answers 4 (unpack d);
       only-4-unknown = λ w. (type-4-unknown w, others-known w);
       as-a-request = as-a-request;
-      formed = λ h w. (λ e. formed-from h w (well-formed h w e), λ f. well-formed-i h w (formed-to h w f));
-      message =
+      well-formed = λ h w. (λ e. rule-from h w (well-formed h w e), λ f. well-formed-i h w (rule-to h w f));
+      whole =
           λ d. (
-            λ e. (message-length d e, formed-from (getD d 0 0) (getD d 1 0) (message-well d e)),
-            λ f. message-i d (f .0) (formed-to (getD d 0 0) (getD d 1 0) (f .1)),
+            λ e. (message-length d e, rule-from (getD d 0 0) (getD d 1 0) (message-well d e)),
+            λ f. message-i d (f .0) (rule-to (getD d 0 0) (getD d 1 0) (f .1)),
           );
       accepts =
           λ d e. let k = known-body (getD d 1 0) (message-well d e .known-type) in

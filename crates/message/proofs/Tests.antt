@@ -1,4 +1,4 @@
--- Laws about tests that hold: what a conjunction and a choice say. Assumes nothing.
+-- Laws about tests that hold: what a conjunction says. Assumes nothing.
 use Prim.Native.Nat.{ℕ}
 use mathlib.Core.Path.{_≡_, refl}
 use mathlib.Core.Bool.{Bool, true, false, _&&_}

@@ -19,12 +19,15 @@ next : {P : Type 0} (t k : ℕ) → k ≤ t → (t ≡ k → P) → (k + 1 ≤ t
 next t k l p q = cases (eqb t k) (λ e. p (eqb-true t k e)) (λ e. q (omega (arith, eqb-false t k e)))
 
 pub by-type :
-    {P : Type 0} (word : ℕ) → (fieldOf type word ≡ 0 → P) → (fieldOf type word ≡ 1 → P) → (fieldOf type word ≡ 2 → P) → (fieldOf type word ≡ 3 → P)
-    → (fieldOf type word ≡ 4 → P) → (fieldOf type word ≡ 5 → P) → (fieldOf type word ≡ 6 → P) → (fieldOf type word ≡ 7 → P) → P
+    {P : Type 0} (word : ℕ) → (fieldOf type word ≡ 0 → P) → (fieldOf type word ≡ 1 → P) → (fieldOf type word ≡ 2 → P)
+    → (fieldOf type word ≡ 3 → P) → (fieldOf type word ≡ 4 → P) → (fieldOf type word ≡ 5 → P) → (fieldOf type word ≡ 6 → P)
+    → (fieldOf type word ≡ 7 → P) → P
 by-type word p0 p1 p2 p3 p4 p5 p6 p7 =
     let t = fieldOf type word in
     next t 0 (omega arith) p0
-    (λ l. next t 1 l p1 (λ l. next t 2 l p2 (λ l. next t 3 l p3 (λ l. next t 4 l p4 (λ l. next t 5 l p5 (λ l. next t 6 l p6 (λ l. p7 (omega (arith, l)))))))))
+    (λ l. next t 1 l p1
+    (λ l. next t 2 l p2
+    (λ l. next t 3 l p3 (λ l. next t 4 l p4 (λ l. next t 5 l p5 (λ l. next t 6 l p6 (λ l. p7 (omega (arith, l)))))))))
 
 -- type 4 is unknown, and each other is known
 pub type-4-unknown : (word : ℕ) → known word ≡ true → fieldOf type word ≡ 4 → ⊥

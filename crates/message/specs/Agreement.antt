@@ -14,8 +14,8 @@ use Rattle.message.specs.declared.Body.the-variants.{Request, FastReques
 use Rattle.message.specs.declared.Message.{Message}
 
 -- 'Well formed: format 0, reserved 0, NUM_DWORDS 1 to 255, and a known HXG type in the second dword', where 'only type 4 stays unknown'
-abbrev pub Formed : ℕ → ℕ → Type 0
-Formed h w =
+abbrev pub MendedRule : ℕ → ℕ → Type 0
+MendedRule h w =
     (fieldOf format h ≡ 0) × (fieldOf reserved h ≡ 0) × (1 ≤ fieldOf numDwords h) × (fieldOf numDwords h ≤ 255) × (fieldOf type w ≡ 4 → ⊥)
 
 pub record Agreement : Type 0 where
@@ -27,8 +27,8 @@ pub record Agreement : Type 0 where
   -- 'a fast request, which wants no success reply and is laid out as a request': a dword holds data and action of both in the same places
   pub as-a-request : (d a w : ℕ) → holds (carried (FastRequest d a)) w ≡ holds (carried (Request d a)) w
   -- 'Refusals 4 and 13 follow the mended rule', and so does 3 for a send's copy: the tests that give them
-  pub formed : (h w : ℕ) → (wellFormed h w ≡ true) ↔ Formed h w
-  pub message : (d : List ℕ) → (isMessage d ≡ true) ↔ ((length d ≡ totalLength (getD d 0 0)) × Formed (getD d 0 0) (getD d 1 0))
+  pub well-formed : (h w : ℕ) → (wellFormed h w ≡ true) ↔ MendedRule h w
+  pub whole : (d : List ℕ) → (isMessage d ≡ true) ↔ ((length d ≡ totalLength (getD d 0 0)) × MendedRule (getD d 0 0) (getD d 1 0))
   -- 'Unpacking takes a whole message and refuses a malformed one'
   pub accepts : (d : List ℕ) → isMessage d ≡ true → (m : Message) × (unpack d ≡ some m)
   pub refuses : (d : List ℕ) → isMessage d ≡ false → unpack d ≡ none
