@@ -1,6 +1,6 @@
 -- Packing and unpacking agree in C's six numbers, since they do in `message` and the numbers say the body. Assumes nothing.
 use Prim.{Unit, tt}
-use Prim.Native.Nat.{ℕ, _+_, _<_, _^_}
+use Prim.Native.Nat.{ℕ, _+_, _≤_, _<_, _^_}
 use mathlib.Core.Path.{_≡_, refl, sym, ap, _∙_, subst}
 use mathlib.Core.Bool.{Bool, true, false, _&&_, cond}
 use mathlib.Core.List.{List, [], _∷_}
@@ -24,26 +24,16 @@ use Rattle.guc.specs.BothWays.{dwords, numbers, packedAgain, BothWays}
 
 -- ---- unpacked, then packed
 
--- the numbers of a body make it again, and leave no number over
-body-again : (b : Body) → bodyFor (typeOf b) (nth 0 (carried b)) (nth 1 (carried b)) ≡ some b
-unfolding bodyFor bodiesFrom numberFor ofType typeOf carried nth
-body-again (Request d a) = refl
-body-again (Event d a) = refl
-body-again (FastRequest d a) = refl
-body-again (Busy c) = refl
-body-again (Retry r) = refl
-body-again (Failure h e) = refl
-body-again (Success d) = refl
-
-none-over : (b : Body) → spare b (nth 1 (carried b)) ≡ true
-unfolding spare carried nth
-none-over (Request d a) = refl
-none-over (Event d a) = refl
-none-over (FastRequest d a) = refl
-none-over (Busy c) = refl
-none-over (Retry r) = refl
-none-over (Failure h e) = refl
-none-over (Success d) = refl
+-- the numbers of a body make it again, and none is left over
+body-again : (b : Body) → (bodyFor (typeOf b) (nth 0 (carried b)) (nth 1 (carried b)) ≡ some b) × (spare b (nth 1 (carried b)) ≡ true)
+unfolding bodyFor bodiesFrom numberFor ofType typeOf carried nth spare
+body-again (Request d a) = (refl, refl)
+body-again (Event d a) = (refl, refl)
+body-again (FastRequest d a) = (refl, refl)
+body-again (Busy c) = (refl, refl)
+body-again (Retry r) = (refl, refl)
+body-again (Failure h e) = (refl, refl)
+body-again (Success d) = (refl, refl)
 
 origin-bit : (o : Origin) → leb (originNumber o) 1 ≡ true
 unfolding originNumber
@@ -52,7 +42,7 @@ origin-bit Guc = refl
 
 said-again : (m : Message) → packedAgain (saidBy m) ≡ packedBy (packAnswer m)
 unfolding saidBy packing Option·elim
-said-again m = rw (body-again (m .body), origin-bit (m .origin), none-over (m .body), origin-back (m .origin))
+said-again m = let k = body-again (m .body) in rw (k .0, origin-bit (m .origin), k .1, origin-back (m .origin))
 
 back : (d : List ℕ) → getD d 0 0 < 2 ^ 32 → getD d 1 0 < 2 ^ 32 → isMessage d ≡ true
     → packedAgain (unpackedBy (unpackAnswer d)) ≡ dwords (getD d 0 0) (getD d 1 0)
@@ -93,22 +83,26 @@ picked t first second (x ∷ xs) b s e = go (eqb t (typeOf x)) refl e (picked t 
         subst (λ (y : Body). (typeOf y ≡ t) × Carries first second y) same (sym (eqb-true t (typeOf x) q), s .0)
     go false q f ih = ih f
 
-module _ (origin fence num t first second header word : ℕ) (rest : List ℕ) (n : length rest + 1 ≡ num) where
+module _ (origin fence num t first second header word : ℕ) where
   abbrev made : Body → Message
   made b = record { origin = originOf origin; fence = fence; «num_dwords» = num; body = b }
 
   abbrev Told : Type 0
-  Told = unpackedBy (unpackAnswer (header ∷ word ∷ rest)) ≡ numbers origin fence num t first second
+  Told =
+      (1 ≤ num)
+      × ((rest : List ℕ) → length rest + 1 ≡ num → unpackedBy (unpackAnswer (header ∷ word ∷ rest)) ≡ numbers origin fence num t first second)
 
   -- what such a message says when it is unpacked
   told : (b : Body) → bodyFor t first second ≡ some b → leb origin 1 ≡ true → spare b second ≡ true → pack (made b) ≡ some (header, word) → Told
   unfolding Carries bodyFor unpackedBy refusing Option·elim saidBy
   told b q o s p =
       let k = picked t first second (bodiesFrom (numberFor first second)) b (each-carries first second) q in
-      let u : unpack (header ∷ word ∷ rest) ≡ some (made b) = agreement .there (made b) header word rest p n in
-      let said : unpackedBy (unpackAnswer (header ∷ word ∷ rest)) ≡ saidBy (made b) = rw u in
-      said
-      ∙ (λ i. numbers (origin-there origin (omega (arith, leb-true origin 1 o)) i) fence num (k .0 i) (k .1 .0 i) (k .1 .1 s i))
+      let l = agreement .dwords (made b) header word p in
+      let says : saidBy (made b) ≡ numbers origin fence num t first second =
+      λ i. numbers (origin-there origin (omega (arith, leb-true origin 1 o)) i) fence num (k .0 i) (k .1 .0 i) (k .1 .1 s i) in (
+        agreement .packs (made b) header word (l .0) (l .1) .0 p .0,
+        λ rest n. let u : unpack (header ∷ word ∷ rest) ≡ some (made b) = agreement .there (made b) header word rest p n in rw u says,
+      )
 
   packed : (b : Body) (x : Option (ℕ × ℕ)) → bodyFor t first second ≡ some b → leb origin 1 ≡ true → spare b second ≡ true
       → pack (made b) ≡ x → packedBy (refusing 14 x) ≡ dwords header word → Told
@@ -134,4 +128,4 @@ module _ (origin fence num t first second header word : ℕ) (rest : List ℕ) (
       go (some b) q f = fitting b (leb origin 1 && spare b second) q refl f
 
 pub both-ways : BothWays
-both-ways = record { back = back; there = λ o f n t a b h w rest e l. there o f n t a b h w rest l e }
+both-ways = record { back = back; there = there }

@@ -10,15 +10,15 @@ use native.Mathlib.Nat.{mod-eq-of-lt, zero-mul, zero-add}
 use lib.ListN.{length, getD}
 use lib.Dec.{eqb, leb}
 use borrow.Author.Tests.{eqb-true, eqb-false, leb-true, eq-eqb, le-leb}
-use Rattle.message.specs.Fields.{fence, numDwords, origin, fieldOf, FieldValue, fit, dword, holds}
-use Rattle.message.specs.Types.{carried, bodyOf, known}
+use Rattle.message.specs.Fields.{fence, numDwords, origin, type, requestData, requestAction, fieldOf, FieldValue, fit, dword, holds}
+use Rattle.message.specs.Types.{typeOf, bodiesFrom, bodies, ofType, bodyOf, known}
 use Rattle.message.specs.Header.{isMessage}
 use Rattle.message.specs.Packing.{originNumber, originOf, decoded, unpack, headerFields, hxgFields, pack, refusing}
 use Rattle.message.specs.Agreement.{MendedRule, Agreement}
 use Rattle.message.specs.declared.Origin.{Origin}
 use Rattle.message.specs.declared.Origin.the-variants.{Host, Guc}
 use Rattle.message.specs.declared.Body.{Body}
-use Rattle.message.specs.declared.Body.the-variants.{Request, FastRequest}
+use Rattle.message.specs.declared.Body.the-variants.{FastRequest}
 use Rattle.message.specs.declared.Message.{Message}
 use Rattle.message.proofs.Tests.{and-l, and-r}
 use Rattle.message.proofs.Tiling.{tiles, holds-first, holds-rest, holds-fit, dword-lt, dword-holds, dword-again}
@@ -194,9 +194,9 @@ rule-from h w f = (f .format-zero, f .reserved-zero, f .low, f .high, type-4-unk
 rule-to : (h w : ℕ) → MendedRule h w → WellFormed h w
 rule-to h w f = record { format-zero = f .0; reserved-zero = f .1; low = f .2; high = f .3; known-type = others-known w (f .4) }
 
-as-a-request : (d a w : ℕ) → holds (carried (FastRequest d a)) w ≡ holds (carried (Request d a)) w
-unfolding holds carried
-as-a-request d a w = refl
+fast-request : (w : ℕ) → fieldOf type w ≡ 2 → bodyOf w ≡ some (FastRequest (fieldOf requestData w) (fieldOf requestAction w))
+unfolding bodyOf bodies bodiesFrom ofType typeOf
+fast-request w e = simp e
 
 pub agreement : Agreement
 agreement =
@@ -204,7 +204,7 @@ agreement =
       packing-answers = λ m. answers 14 (pack m);
       unpacking-answers = λ d. answers 4 (unpack d);
       only-4-unknown = λ w. (type-4-unknown w, others-known w);
-      as-a-request = as-a-request;
+      fast-request = fast-request;
       well-formed = λ h w. (λ e. rule-from h w (well-formed h w e), λ f. well-formed-i h w (rule-to h w f));
       whole =
           λ d. (

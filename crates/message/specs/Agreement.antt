@@ -6,11 +6,11 @@ use mathlib.Core.Bool.{true, false}
 use mathlib.Core.List.{List, _∷_}
 use mathlib.Core.Option.{none, some}
 use lib.ListN.{length, getD}
-use Rattle.message.specs.Fields.{format, reserved, numDwords, type, fieldOf, holds}
-use Rattle.message.specs.Types.{carried, known}
+use Rattle.message.specs.Fields.{format, reserved, numDwords, type, requestData, requestAction, fieldOf, holds}
+use Rattle.message.specs.Types.{bodyOf, known}
 use Rattle.message.specs.Header.{totalLength, wellFormed, isMessage}
 use Rattle.message.specs.Packing.{unpack, pack, headerFields, hxgFields, packAnswer, unpackAnswer}
-use Rattle.message.specs.declared.Body.the-variants.{Request, FastRequest}
+use Rattle.message.specs.declared.Body.the-variants.{FastRequest}
 use Rattle.message.specs.declared.Message.{Message}
 
 -- 'Well formed: format 0, reserved 0, NUM_DWORDS 1 to 255, and a known HXG type in the second dword', where 'only type 4 stays unknown'
@@ -24,9 +24,9 @@ pub record Agreement : Type 0 where
   pub unpacking-answers : (d : List ℕ) → unpackAnswer d .value ≡ unpack d
   -- 'only type 4 stays unknown': the type of a dword is known exactly when it is not 4
   pub only-4-unknown : (w : ℕ) → (known w ≡ true) ↔ (fieldOf type w ≡ 4 → ⊥)
-  -- 'a fast request, which wants no success reply and is laid out as a request': a dword holds data and action of both in the same places
-  pub as-a-request : (d a w : ℕ) → holds (carried (FastRequest d a)) w ≡ holds (carried (Request d a)) w
-  -- 'Refusals 4 and 13 follow the mended rule', and so does 3 for a send's copy: the tests that give them
+  -- 'type 2, a fast request, which wants no success reply and is laid out as a request': its data and action are read where a request's are
+  pub fast-request : (w : ℕ) → fieldOf type w ≡ 2 → bodyOf w ≡ some (FastRequest (fieldOf requestData w) (fieldOf requestAction w))
+  -- 'Refusals 4 and 13 follow the mended rule': the two tests that they ask, as 3 does of a send's copy
   pub well-formed : (h w : ℕ) → (wellFormed h w ≡ true) ↔ MendedRule h w
   pub whole : (d : List ℕ) → (isMessage d ≡ true) ↔ ((length d ≡ totalLength (getD d 0 0)) × MendedRule (getD d 0 0) (getD d 1 0))
   -- 'Unpacking takes a whole message and refuses a malformed one'
@@ -43,7 +43,7 @@ pub record Agreement : Type 0 where
       → (pack m ≡ some (h, w))
       ↔ ((1 ≤ m .«num_dwords») × (holds (headerFields m) h ≡ true) × (holds (hxgFields m) w ≡ true))
   pub dwords : (m : Message) (h w : ℕ) → pack m ≡ some (h, w) → (h < 2 ^ 32) × (w < 2 ^ 32)
-  -- 'Both ways agree on those two dwords': packed, then unpacked with any dwords after the second
+  -- 'Both ways agree on those two dwords': packed, then unpacked with any NUM_DWORDS - 1 dwords after the second
   pub there :
       (m : Message) (h w : ℕ) (rest : List ℕ) → pack m ≡ some (h, w) → length rest + 1 ≡ m .«num_dwords»
       → unpack (h ∷ w ∷ rest) ≡ some m
