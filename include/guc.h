@@ -8,8 +8,9 @@
  * Every function is total: it answers any contents and any counts, it never
  * aborts, and it keeps nothing between calls; there is no hidden state and no
  * allocation. A refusal is a number of enum guc_number. Where several apply,
- * the lowest is given, but a part inside a directory is judged only after the
- * directory itself; 101 is judged before all others, 100 after them.
+ * the lowest is given, but 22 is tested before 21, and a part inside a directory
+ * is judged only after the directory itself; 101 is judged before all others,
+ * 100 after them.
  *
  * "Changes" below names everything a call may change. What it doesn't name is
  * left as it was, also on a refusal.
@@ -99,7 +100,10 @@
 extern "C" {
 #endif
 
-/* The answers. 0 to 21 are the specification's, 100 and 101 this interface's. */
+/*
+ * The answers. 0 to 22 are the specification's (22 by a change request, tested
+ * after 20 and before 21), 100 and 101 this interface's.
+ */
 enum guc_number {
 	GUC_OK = 0,              /* accepted */
 	GUC_BAD_DESCRIPTOR = 1,  /* the descriptor is not 16 dwords */
@@ -123,6 +127,7 @@ enum guc_number {
 	GUC_CPD_ENTRIES = 19,    /* the CPD entries lie beyond the blob */
 	GUC_NO_ENTRY = 20,       /* no entry of that name */
 	GUC_CPD_BEYOND = 21,     /* the entry's part lies beyond the blob */
+	GUC_DUPLICATE_ENTRY = 22, /* more than one entry has that name */
 	GUC_NO_ROOM = 100,       /* the destination is too short; nothing written */
 	GUC_NO_SUCH = 101        /* no such HXG type or component */
 };
@@ -394,16 +399,18 @@ struct guc_copied guc_css_copy(const uint8_t *blob, size_t len, uint32_t which,
 struct guc_version guc_css_version(const uint8_t *blob, size_t len);
 
 /*
- * Where the part of a code partition directory lies whose entry is the first of
- * this name. The name has 1 to 12 bytes and no zero among them.
- * Answers 0, 14, 15, 18, 19, 20 or 21.
+ * Where the part of a code partition directory lies whose entry has this name.
+ * The name has 1 to 12 bytes and no zero among them. A name that more than one
+ * entry has is refused by 22, also where the entries are alike or their parts lie
+ * beyond the blob: every entry is walked.
+ * Answers 0, 14, 15, 18, 19, 20, 22 or 21.
  */
 struct guc_part guc_cpd_part(const uint8_t *blob, size_t len,
 			     const uint8_t *name, size_t name_len);
 
 /*
  * Copies that part to dst, which has room bytes.
- * Answers 0, 14, 15, 18, 19, 20, 21 or 100.
+ * Answers 0, 14, 15, 18, 19, 20, 22, 21 or 100.
  */
 struct guc_copied guc_cpd_copy(const uint8_t *blob, size_t len,
 			       const uint8_t *name, size_t name_len,
@@ -411,7 +418,7 @@ struct guc_copied guc_cpd_copy(const uint8_t *blob, size_t len,
 
 /*
  * The firmware version in the directory's part "HUCP.man".
- * Answers 0, 15 (blob below 20 bytes or part below 44), 18, 19, 20 or 21.
+ * Answers 0, 15 (blob below 20 bytes or part below 44), 18, 19, 20, 22 or 21.
  */
 struct guc_manifest guc_manifest_version(const uint8_t *blob, size_t len);
 
@@ -420,8 +427,8 @@ struct guc_manifest guc_manifest_version(const uint8_t *blob, size_t len);
  * own after the directory: as the guc_css functions above, with start counted
  * from the start of the whole blob (0 for the empty part of a refusal or of a
  * truncated image).
- * Answer 0, 15, 16, 17, 18, 19, 20 or 21; guc_huc_part also 101, guc_huc_copy
- * also 100 and 101.
+ * Answer 0, 15, 16, 17, 18, 19, 20, 22 or 21; guc_huc_part also 101,
+ * guc_huc_copy also 100 and 101.
  */
 struct guc_css guc_huc_answer(const uint8_t *blob, size_t len);
 struct guc_part guc_huc_part(const uint8_t *blob, size_t len, uint32_t which);
