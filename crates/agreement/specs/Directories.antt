@@ -1,8 +1,8 @@
--- Code partition directories agree with document 01, 'Firmware images': the part of a name, and the manifest and the image inside.
+-- Code partition directories agree with document 01, 'Firmware images', and document 02, T-03: the part of a name, and the manifest and the image inside.
 use Prim.Native.Nat.{ℕ, _+_, _*_, _%_, _≤_, _<_, _^_}
 use mathlib.Core.Path.{_≡_}
 use mathlib.Core.Logic.{_↔_}
-use mathlib.Core.Bool.{false}
+use mathlib.Core.Bool.{true, false}
 use mathlib.Core.List.{List, [], _∷_}
 use lib.ListN.{length, getD}
 use denote.Ref.{RefT, now}
@@ -45,20 +45,37 @@ offsetAt b at = dwordAt b (at + 12) % 2 ^ 25
 abbrev pub sizeAt : List ℕ → ℕ → ℕ
 sizeAt b at = dwordAt b (at + 16)
 
+-- an entry that has a name that may be sought
+pub record EntryNamed (b name : List ℕ) (i : ℕ) : Type 0 where
+  pub may-be-sought : IsName name
+  pub of-directory : IsDirectory b
+  pub an-entry : i < dwordAt b 4
+  pub named : HasName b name i
+
 -- an entry that has a part in the blob
 pub record EntryThere (b : List ℕ) (i : ℕ) : Type 0 where
   pub of-directory : IsDirectory b
   pub an-entry : i < dwordAt b 4
   pub part-there : offsetAt b (entryAt b i) + sizeAt b (entryAt b i) ≤ length b
 
--- the entry that a seek answers
+-- the entry that a seek answers: it has the name, and no other entry has
 pub record Sought (b name : List ℕ) : Type 0 where
   pub may-be-sought : IsName name
   pub i : ℕ
   pub entry : EntryThere b i
-  -- 'The walk ends at the first entry whose twelve bytes agree.'
   pub named : HasName b name i
-  pub first : (j : ℕ) → j < i → HasName b name j → ⊥
+  pub only : (j : ℕ) → j < dwordAt b 4 → HasName b name j → j ≡ i
+
+-- T-03: 'more than one entry has it': two of the n entries, whatever else is in them and wherever their parts lie
+pub record SharedName (b name : List ℕ) : Type 0 where
+  pub may-be-sought : IsName name
+  pub of-directory : IsDirectory b
+  pub i : ℕ
+  pub j : ℕ
+  pub apart : i < j
+  pub an-entry : j < dwordAt b 4
+  pub named-i : HasName b name i
+  pub named-j : HasName b name j
 
 -- the image in `huc_fw`, where the directory's own numbers pass, 'is judged by the CSS rules as a blob of its own'
 pub record HucInside (b : List ℕ) (image : List ℕ) (start : ℕ) : Type 0 where
@@ -85,6 +102,8 @@ pub record ManifestInside (b : List ℕ) (part : List ℕ) : Type 0 where
 pub record Directories : Type 0 where
   -- accepted exactly when there is such an entry; 'Its part starts at the offset from the blob's start.'
   pub exactly : (b name : List ℕ) → (Cpd.number b name ≡ 0) ↔ Sought b name
+  -- T-03: 'Seeking a name must refuse with a new number 22 when more than one entry has it, tested after 20 and before 21'
+  pub shared : (b name : List ℕ) → (Cpd.number b name ≡ 22) ↔ SharedName b name
   pub part :
       (b name : List ℕ) (x : Sought b name)
       → At (offsetAt b (entryAt b (x .i))) (sizeAt b (entryAt b (x .i))) (Cpd.located b name)
@@ -108,10 +127,13 @@ pub record Directories : Type 0 where
       (b : List ℕ) (i : ℕ) → IsDirectory b → i < dwordAt b 4 → Cpd.namePlace b i ≡ span (entryAt b i) (entryAt b i + 12)
   pub no-entry-name :
       (b : List ℕ) (i : ℕ) → (IsDirectory b → i < dwordAt b 4 → ⊥) → Cpd.namePlace b i ≡ nowhere
+  -- and whether it has a name that may be sought
+  pub entry-has : (b name : List ℕ) (i : ℕ) → (Cpd.entryHas b name i ≡ true) ↔ EntryNamed b name i
 
 -- what lies inside a directory, of every blob
 pub record InsideDirectories : Type 0 where
-  -- 'a part inside a directory is judged only after the directory's own numbers, 14 to 21, have passed': until then they are the answer
+  -- 'a part inside a directory is judged only after the directory's own numbers, 14 to 21, have passed': until then they are the answer; T-03: 'The manifest and
+  -- CSS readings inside a directory pass 22 on and promise it.'
   pub huc-outside :
       (which : Component) (b : List ℕ) → (Cpd.number b hucName ≡ 0 → ⊥) → EmptyAtStart (Cpd.number b hucName) (hucLocated which b)
   pub huc-outside-reading :

@@ -116,27 +116,27 @@ table-lies b = room (eqb (Cpd.directoryNumber b) 0) (Cpd.headerLength b) (Cpd.co
 pub table-room : (b : List ℕ) {t : Table} → t ≡ tableOf b → t .start + 24 * t .count ≤ length b
 table-room b e = rw e (table-lies b)
 
--- the part of an entry lies within the blob
-entry-accepted : (b : List ℕ) (i : ℕ) → Cpd.entryNumber b i ≡ 0 → Lies (length b) (Cpd.entryPart b (Cpd.entryStart b i))
-unfolding Cpd.entryNumber
-entry-accepted b i e =
+-- the part of a name lies within the blob: it was judged by 21 last
+part-accepted : (b : List ℕ) (i : ℕ) → Cpd.partNumber b i ≡ 0 → Lies (length b) (Cpd.entryPart b (Cpd.entryStart b i))
+part-accepted b i e =
     let to : ℕ = Cpd.entryPart b (Cpd.entryStart b i) .to in
-    let u = both-pass (Cpd.directoryNumber b) _ e in
-    let v = unmet (leb (Cpd.count b) i) 20 _ refl (u .1) in
-    let w = unmet (ltb (length b) to) 21 0 refl (v .1) in
+    let w = unmet (ltb (length b) to) 21 0 refl e in
     omega (arith, ltb-false (length b) to (w .0))
 
-entry-lies : (b : List ℕ) (i : ℕ) → Lies (length b) (Cpd.entryPlace b i)
-unfolding Cpd.entryPlace
-entry-lies b i =
-    either (Lies (length b)) (eqb (Cpd.entryNumber b i) 0) _ _
-    (λ e. entry-accepted b i (eqb-true (Cpd.entryNumber b i) 0 e))
-    (λ _. omega arith)
+name-accepted : (b name : List ℕ) → Cpd.number b name ≡ 0 → Cpd.partNumber b (Cpd.firstEntry b name) ≡ 0
+unfolding Cpd.number
+name-accepted b name e =
+    let u = unmet (not (Cpd.isName name)) 14 _ refl e in
+    let v = both-pass (Cpd.directoryNumber b) _ (u .1) in
+    let w = unmet (eqb (Cpd.entriesNamed b name) 0) 20 _ refl (v .1) in
+    unmet (ltb 1 (Cpd.entriesNamed b name)) 22 _ refl (w .1) .1
 
 pub cpd-lies : (b name : List ℕ) → Lies (length b) (Cpd.place b name)
 unfolding Cpd.place
 cpd-lies b name =
-    either (Lies (length b)) (not (Cpd.isName name)) _ _ (λ _. omega arith) (λ _. entry-lies b (Cpd.firstEntry b name))
+    either (Lies (length b)) (eqb (Cpd.number b name) 0) _ _
+    (λ e. part-accepted b (Cpd.firstEntry b name) (name-accepted b name (eqb-true (Cpd.number b name) 0 e)))
+    (λ _. omega arith)
 
 -- the bytes of a part that lies within the blob are as many as its length
 pub length-bytes : (b : List ℕ) (p : Span) → Lies (length b) p → length (bytes b p) ≡ p .to - p .from

@@ -1,5 +1,5 @@
 -- A name and its key, and the first four bytes of a name compared as a dword. Assumes nothing.
-use Prim.Native.Nat.{ℕ, _+_, _*_, _<_}
+use Prim.Native.Nat.{ℕ, _+_, _-_, _*_, _<_}
 use mathlib.Core.Path.{_≡_, refl, ap}
 use mathlib.Core.Bool.{Bool, true, false}
 use mathlib.Core.List.{List}
@@ -13,10 +13,10 @@ use Rattle.firmware.specs.Private.{Keyed, walked}
 use Rattle.firmware.proofs.Search.{all-holds, all-same, first-same}
 
 -- a walk for a key is the walk for its name
-pub keyed-walked : (b name key : List ℕ) (start count : ℕ) → Keyed name key → walked b key start count ≡ walked b name start count
+pub keyed-walked : (b name key : List ℕ) (start count from : ℕ) → Keyed name key → walked b key start count from ≡ walked b name start count from
 unfolding walked
-keyed-walked b name key start count h =
-    first-same _ _ 0 count (λ i. all-same _ _ 12 (λ j l. ap (eqb (getD b (start + 24 * i + j) 0)) (h j l)))
+keyed-walked b name key start count from h =
+    first-same _ _ from (count - from) (λ i. all-same _ _ 12 (λ j l. ap (eqb (getD b (start + 24 * i + j) 0)) (h j l)))
 
 -- bytes that agree one after another are one dword
 module _ (b key : List ℕ) (at : ℕ) where

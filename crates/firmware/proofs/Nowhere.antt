@@ -28,13 +28,9 @@ pub entry-nowhere : (b : List ℕ) (i : ℕ) → eqb (Cpd.entryNumber b i) 0 ≡
 unfolding Cpd.entryPlace
 entry-nowhere b i e = rw e
 
-by-name : (b : List ℕ) (i : ℕ) (t : Bool) → eqb (cond t 14 (Cpd.entryNumber b i)) 0 ≡ false → cond t nowhere (Cpd.entryPlace b i) ≡ nowhere
-by-name b i true e = refl
-by-name b i false e = entry-nowhere b i e
-
 pub name-nowhere : (b name : List ℕ) → eqb (Cpd.number b name) 0 ≡ false → Cpd.place b name ≡ nowhere
-unfolding Cpd.number Cpd.place
-name-nowhere b name e = by-name b (Cpd.firstEntry b name) (not (Cpd.isName name)) e
+unfolding Cpd.place
+name-nowhere b name e = rw e
 
 -- a component of the image in `huc_fw`, where the directory refuses, and where the image does
 pub huc-outside-nowhere : (b : List ℕ) (which : Component) → eqb (Cpd.number b hucName) 0 ≡ false → hucLocated which b ≡ placed (Cpd.number b hucName) false nowhere

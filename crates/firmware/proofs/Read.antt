@@ -1,17 +1,19 @@
 -- What an answer that meets its contract says of the definitions. Assumes nothing.
-use Prim.Native.Nat.{ℕ, _+_, _-_, _*_, _≤_, _<_}
+use Prim.Native.Nat.{ℕ, suc, _+_, _-_, _*_, _≤_, _<_}
 use mathlib.Core.Path.{_≡_, refl, sym, ap, _∙_}
 use mathlib.Core.Bool.{Bool, true, false, cond}
 use mathlib.Core.List.{List}
 use native.Mathlib.Omega.{arith}
 use lib.ListN.{length}
-use lib.Dec.{eqb, ltb}
-use borrow.Author.Tests.{eq-eqb, ne-eqb, lt-ltb, le-ltb, le-leb, lt-leb}
+use lib.Dec.{eqb, leb, ltb}
+use borrow.Author.Tests.{eq-eqb, ne-eqb, lt-ltb, ltb-false, ltb-true, le-ltb, le-leb, lt-leb}
 use Rattle.firmware.specs.Bytes.{span, nowhere, placed}
 use Rattle.firmware.specs.Cpd
 use Rattle.firmware.specs.Private.{Keyed, tableOf, walked}
 use Rattle.firmware.specs.declared.cpd.Table.{Table}
 use Rattle.firmware.proofs.Names.{keyed-walked}
+use Rattle.firmware.proofs.Search.{count-met, count-none, first-within}
+use Rattle.firmware.proofs.Tests.{cases}
 
 -- a directory judged
 module _ (b : List ℕ) {t : Table} (e : t ≡ tableOf b) where
@@ -31,6 +33,11 @@ module _ (b : List ℕ) {t : Table} (e : t ≡ tableOf b) where
 entry-refused : (b : List ℕ) (i : ℕ) → eqb (Cpd.directoryNumber b) 0 ≡ false → Cpd.entryLocated b i ≡ placed (Cpd.directoryNumber b) false nowhere
 unfolding Cpd.entryNumber Cpd.entryPlace
 entry-refused b i e = simp e
+
+-- and a name in it
+name-refused : (b name : List ℕ) → Cpd.isName name ≡ true → eqb (Cpd.directoryNumber b) 0 ≡ false → Cpd.located b name ≡ placed (Cpd.directoryNumber b) false nowhere
+unfolding Cpd.number Cpd.place
+name-refused b name n e = simp (n, e)
 
 pub entry-own : (b : List ℕ) {t : Table} (e : t ≡ tableOf b) (i : ℕ) → (t .code ≡ 0 → ⊥) → Cpd.entryLocated b i ≡ placed (t .code) false nowhere
 entry-own b e i z =
@@ -57,18 +64,135 @@ module _ (b : List ℕ) {t : Table} (e : t ≡ tableOf b) (z : t .code ≡ 0) (i
         let d : start + len - start ≡ len = omega arith in
         simp (own, table-count b e z, table-start b e z, lt-leb (t .count) i l, ← o, ← s, le-ltb (length b) (start + len) g, d)
 
--- the entry that the walk finds is the name's
-module _ (b name key : List ℕ) {t : Table} {i : ℕ} (h : Keyed name key) (e : t ≡ tableOf b) (w : i ≡ walked b key (t .start) (t .count)) where
-  by-number : (d : Bool) → eqb (Cpd.directoryNumber b) 0 ≡ d → Cpd.entryLocated b i ≡ Cpd.entryLocated b (Cpd.firstEntry b name)
-  unfolding tableOf Cpd.firstEntry walked
-  by-number true d =
-      let f : i ≡ Cpd.firstEntry b name = w ∙ keyed-walked b name key (t .start) (t .count) h ∙ rw (e, d) in
-      ap (Cpd.entryLocated b) f
-  by-number false d = entry-refused b i d ∙ sym (entry-refused b (Cpd.firstEntry b name) d)
+-- a name that may be sought is its one entry's
+by-entry : (b name : List ℕ) → Cpd.entryNumber b (Cpd.firstEntry b name) ≡ Cpd.number b name → Cpd.entryLocated b (Cpd.firstEntry b name) ≡ Cpd.located b name
+unfolding Cpd.entryPlace Cpd.place
+by-entry b name e = rw e
 
-  pub name-found : Cpd.isName name ≡ true → Cpd.entryLocated b i ≡ Cpd.located b name
-  unfolding Cpd.number Cpd.place
-  name-found n = simp n (by-number (eqb (Cpd.directoryNumber b) 0) refl)
+-- the walks for a name that may be sought
+module _ (b name key : List ℕ) {t : Table} (h : Keyed name key) (n : Cpd.isName name ≡ true) (e : t ≡ tableOf b) where
+  -- in a directory that is accepted they are over its entries
+  walked-entries : eqb (Cpd.directoryNumber b) 0 ≡ true → (from : ℕ) → walked b key (t .start) (t .count) from ≡ Cpd.firstFrom (Cpd.hasName b name) from (Cpd.count b - from)
+  unfolding tableOf walked
+  walked-entries d from = keyed-walked b name key (t .start) (t .count) from h ∙ rw (e, d)
+
+  entries-are : eqb (Cpd.directoryNumber b) 0 ≡ true → t .count ≡ Cpd.count b
+  unfolding tableOf
+  entries-are d = rw (e, d)
+
+  -- one that is refused has none
+  has-entries : (i : ℕ) → i < t .count → (d : Bool) → eqb (Cpd.directoryNumber b) 0 ≡ d → eqb (Cpd.directoryNumber b) 0 ≡ true
+  unfolding tableOf
+  has-entries i l true d = d
+  has-entries i l false d = let z : i < 0 = rw (e, d) at l in absurd (omega arith)
+
+  -- the first walk comes to i
+  module _ {i : ℕ} (w : i ≡ walked b key (t .start) (t .count) 0) where
+    first-is : eqb (Cpd.directoryNumber b) 0 ≡ true → i ≡ Cpd.firstEntry b name
+    unfolding Cpd.firstEntry
+    first-is d = let z : Cpd.count b - 0 ≡ Cpd.count b = omega arith in w ∙ walked-entries d 0 ∙ rw z
+
+    by-number : (d : Bool) → eqb (Cpd.directoryNumber b) 0 ≡ d → t .count ≤ i → Cpd.entryLocated b i ≡ Cpd.located b name
+    unfolding Cpd.entryNumber Cpd.number Cpd.entriesNamed Cpd.firstEntry
+    by-number true d l =
+        let f : i ≡ Cpd.firstEntry b name = first-is d in
+        let g : Cpd.count b ≤ Cpd.firstEntry b name = omega (arith, entries-are d) in
+        let z : Cpd.entriesNamed b name ≡ 0 = count-none (Cpd.hasName b name) 0 (Cpd.count b) (omega arith) in
+        ap (Cpd.entryLocated b) f ∙ by-entry b name (simp (n, d, z, le-leb (Cpd.count b) (Cpd.firstEntry b name) g))
+    by-number false d l = entry-refused b i d ∙ sym (name-refused b name n d)
+
+    -- no entry has the name, or the directory is refused
+    named-none : t .count ≤ i → Cpd.entryLocated b i ≡ Cpd.located b name
+    named-none = by-number (eqb (Cpd.directoryNumber b) 0) refl
+
+    -- the second walk, from behind the entry found, comes to next
+    module _ (l : i < t .count) {next : ℕ} (v : next ≡ walked b key (t .start) (t .count) (i + 1)) where
+      accepted : eqb (Cpd.directoryNumber b) 0 ≡ true
+      accepted = has-entries i l (eqb (Cpd.directoryNumber b) 0) refl
+
+      found : i < Cpd.count b
+      found = omega (arith, entries-are accepted)
+
+      next-is : next ≡ Cpd.firstFrom (Cpd.hasName b name) (i + 1) (Cpd.count b - (i + 1))
+      next-is = v ∙ walked-entries accepted (i + 1)
+
+      -- how many have it: the one found, and those behind it
+      named : Cpd.entriesNamed b name ≡ 1 + Cpd.countFrom (Cpd.hasName b name) (i + 1) (Cpd.count b - (i + 1))
+      unfolding Cpd.entriesNamed Cpd.firstEntry
+      named =
+          let z : 0 + Cpd.count b ≡ Cpd.count b = omega arith in
+          rw z at (count-met (Cpd.hasName b name) 0 (Cpd.count b) i (first-is accepted) (omega (arith, found)))
+
+      named-once : t .count ≤ next → Cpd.entryLocated b i ≡ Cpd.located b name
+      unfolding Cpd.entryNumber Cpd.number
+      named-once g =
+          let z : Cpd.countFrom (Cpd.hasName b name) (i + 1) (Cpd.count b - (i + 1)) ≡ 0
+          = count-none (Cpd.hasName b name) (i + 1) (Cpd.count b - (i + 1)) (omega (arith, next-is, found, entries-are accepted)) in
+          let one : Cpd.entriesNamed b name ≡ 1 = omega (arith, named, z) in
+          let f : i ≡ Cpd.firstEntry b name = first-is accepted in
+          let k : leb (Cpd.count b) (Cpd.firstEntry b name) ≡ false = lt-leb (Cpd.count b) (Cpd.firstEntry b name) (omega (arith, f, found)) in
+          ap (Cpd.entryLocated b) f ∙ by-entry b name (simp (n, accepted, one, k))
+
+      named-again : next < t .count → placed 22 false nowhere ≡ Cpd.located b name
+      unfolding Cpd.number Cpd.place
+      named-again g =
+          let more = count-met (Cpd.hasName b name) (i + 1) (Cpd.count b - (i + 1)) next next-is (omega (arith, found, entries-are accepted)) in
+          let some : eqb (Cpd.entriesNamed b name) 0 ≡ false = ne-eqb (Cpd.entriesNamed b name) 0 (λ q. absurd (omega (arith, named, q))) in
+          let two : ltb 1 (Cpd.entriesNamed b name) ≡ true = lt-ltb 1 (Cpd.entriesNamed b name) (omega (arith, named, more)) in
+          simp (n, accepted, some, two)
+
+-- a walk from the first entry on ends behind the last one at most
+pub walk-ends : (b key : List ℕ) (start count : ℕ) {i : ℕ} → i ≡ walked b key start count 0 → i ≤ count
+unfolding walked
+walk-ends b key start count w =
+    let f = first-within (λ k. Cpd.agrees b key (start + 24 * k)) 0 (count - 0) in
+    omega (arith, w, f .1)
+
+-- what the two walks say of the name
+module _ (b name key : List ℕ) {t : Table} (h : Keyed name key) (n : Cpd.isName name ≡ true) (e : t ≡ tableOf b) where
+  module _ {i next : ℕ} (w : i ≡ walked b key (t .start) (t .count) 0) (v : next ≡ walked b key (t .start) (t .count) (i + 1)) where
+    pub named-twice : next < t .count → placed 22 false nowhere ≡ Cpd.located b name
+    unfolding walked
+    named-twice g =
+        let f = first-within (λ k. Cpd.agrees b key (t .start + 24 * k)) (i + 1) (t .count - (i + 1)) in
+        named-again b name key h n e w (omega (arith, v, f .0)) v g
+
+    pub named-once-at-most : t .count ≤ next → Cpd.entryLocated b i ≡ Cpd.located b name
+    named-once-at-most g =
+        cases (ltb i (t .count))
+        (λ l. named-once b name key h n e w (ltb-true i (t .count) l) v g)
+        (λ l. named-none b name key h n e w (ltb-false i (t .count) l))
+
+-- a walk over entry i alone
+one-alone : (p : ℕ → Bool) (i : ℕ) → eqb (Cpd.firstFrom p i (i + 1 - i)) i ≡ p i
+unfolding Cpd.firstFrom
+one-alone p i =
+    let z : i + 1 - i ≡ 1 = omega arith in
+    rw z (cases (p i) (λ t. rw (t, eq-eqb i i refl)) (λ t. rw (t, ne-eqb (suc i) i (λ q. absurd (omega arith)))))
+
+-- no entry has what is no name
+pub has-no-name : (b name : List ℕ) (i : ℕ) → Cpd.isName name ≡ false → false ≡ Cpd.entryHas b name i
+unfolding Cpd.entryHas
+has-no-name b name i n = simp n
+
+-- whether entry i has a name
+module _ (b name : List ℕ) {t : Table} (e : t ≡ tableOf b) (i : ℕ) where
+  entries-of : Cpd.entriesOf b .count ≡ t .count
+  unfolding Cpd.entriesOf tableOf
+  entries-of = rw e
+
+  module _ (n : Cpd.isName name ≡ true) where
+    pub has-none : t .count ≤ i → false ≡ Cpd.entryHas b name i
+    unfolding Cpd.entryHas
+    has-none l = simp (n, entries-of, le-ltb i (t .count) l)
+
+    pub has-alone : i < t .count → (key : List ℕ) → Keyed name key → {r : ℕ} → r ≡ walked b key (t .start) (i + 1) i → eqb r i ≡ Cpd.entryHas b name i
+    unfolding Cpd.entryHas walked tableOf
+    has-alone l key h {r} w =
+        let d = has-entries b name key h n e i l (eqb (Cpd.directoryNumber b) 0) refl in
+        let s : t .start ≡ Cpd.headerLength b = rw (e, d) in
+        let found : eqb r i ≡ Cpd.hasName b name i = ap (λ (x : ℕ). eqb x i) (w ∙ keyed-walked b name key (t .start) (i + 1) i h) ∙ rw s (one-alone (Cpd.hasName b name) i) in
+        simp (n, entries-of, lt-ltb i (t .count) l) found
 
 -- the place of entry i's name, where there is such an entry and where there is none
 there : (t : Bool) (x y i : ℕ) → i < cond t y 0 → cond (ltb i (cond t y 0)) (span (x + 24 * i) (x + 24 * i + 12)) nowhere ≡ span (cond t x 0 + 24 * i) (cond t x 0 + 24 * i + 12)

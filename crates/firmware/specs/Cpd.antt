@@ -1,4 +1,4 @@
--- Code partition directories (document 01, 'Firmware images'): seeking a name, and where its part lies.
+-- Code partition directories (document 01, 'Firmware images', and document 02, T-03): seeking a name, and where its part lies.
 use Prim.Native.Nat.{ℕ, zero, suc, _+_, _*_, _%_, _^_}
 use mathlib.Core.Bool.{Bool, true, false, not, _&&_, cond}
 use mathlib.Core.List.{List}
@@ -17,6 +17,11 @@ all p (suc n) = all p n && p n
 unfoldable pub firstFrom : (ℕ → Bool) → ℕ → ℕ → ℕ
 firstFrom p i zero = i
 firstFrom p i (suc n) = cond (p i) i (firstFrom p (suc i) n)
+
+-- how many of the n numbers from i on p holds of
+unfoldable pub countFrom : (ℕ → Bool) → ℕ → ℕ → ℕ
+countFrom p i zero = 0
+countFrom p i (suc n) = cond (p i) 1 0 + countFrom p (suc i) n
 
 -- a name to seek has '1 to 12 bytes without a zero'
 abbrev pub nonzero : List ℕ → ℕ → Bool
@@ -60,40 +65,56 @@ entryPart b at = span (offset b at) (offset b at + size b at)
 abbrev pub agrees : List ℕ → List ℕ → ℕ → Bool
 agrees b name at = all (λ j. eqb (getD b (at + j) 0) (getD name j 0)) 12
 
--- 'The walk ends at the first entry whose twelve bytes agree.': its index, or n where there is none
+-- whether entry i has that name
+abbrev pub hasName : List ℕ → List ℕ → ℕ → Bool
+hasName b name i = agrees b name (entryStart b i)
+
+-- 'the first entry whose twelve bytes agree': its index, or n where there is none
 unfoldable pub firstEntry : List ℕ → List ℕ → ℕ
-firstEntry b name = firstFrom (λ i. agrees b name (entryStart b i)) 0 (count b)
+firstEntry b name = firstFrom (hasName b name) 0 (count b)
 
--- ours, for what seeking a name and a list of all entries share: entry i, by the numbers of the directory's header, 20 where there is none, then 21 'entry's
--- part lies beyond the blob'
-unfoldable pub entryNumber : List ℕ → ℕ → ℕ
-entryNumber b i =
-    then (directoryNumber b) (cond (leb (count b) i) 20 (cond (ltb (length b) (entryPart b (entryStart b i) .to)) 21 0))
+-- T-03: 'the walk now goes on to the last entry': how many of the n entries have the name, whatever else is in them
+unfoldable pub entriesNamed : List ℕ → List ℕ → ℕ
+entriesNamed b name = countFrom (hasName b name) 0 (count b)
 
--- where its part lies, or the empty part that a refusal gives
-unfoldable pub entryPlace : List ℕ → ℕ → Span
-entryPlace b i = cond (eqb (entryNumber b i) 0) (entryPart b (entryStart b i)) nowhere
+-- 21 'entry's part lies beyond the blob', of entry i
+abbrev pub partNumber : List ℕ → ℕ → ℕ
+partNumber b i = cond (ltb (length b) (entryPart b (entryStart b i) .to)) 21 0
 
--- the whole judgement of entry i
-abbrev pub entryLocated : List ℕ → ℕ → Located
-entryLocated b i = placed (entryNumber b i) false (entryPlace b i)
-
--- 14 'name to seek not 1 to 12 bytes without a zero', then those of the first entry of that name: 20 is 'no entry of that name'
+-- 14 'name to seek not 1 to 12 bytes without a zero'; 15, 18 and 19; 20 'no entry of that name'; T-03: 'Seeking a name must refuse with a new number 22 when
+-- more than one entry has it, tested after 20 and before 21'; 21 of the one entry that has it
 unfoldable pub number : List ℕ → List ℕ → ℕ
-number b name = cond (not (isName name)) 14 (entryNumber b (firstEntry b name))
+number b name =
+    cond (not (isName name)) 14
+    (then (directoryNumber b)
+    (cond (eqb (entriesNamed b name) 0) 20 (cond (ltb 1 (entriesNamed b name)) 22 (partNumber b (firstEntry b name)))))
 
--- the part that is handed back for that name
+-- the part that is handed back for that name, or the empty part that a refusal gives
 unfoldable pub place : List ℕ → List ℕ → Span
-place b name = cond (not (isName name)) nowhere (entryPlace b (firstEntry b name))
+place b name = cond (eqb (number b name) 0) (entryPart b (entryStart b (firstEntry b name))) nowhere
 
 -- the whole judgement of a name sought
 abbrev pub located : List ℕ → List ℕ → Located
 located b name = placed (number b name) false (place b name)
 
--- ours, for a list of all entries: what a directory has, whatever is sought: its number and, where that is 0, how many entries
+-- ours, for a list of all entries: entry i by its index, whatever its name: the directory's own numbers, 20 where there is no such entry, then 21
+unfoldable pub entryNumber : List ℕ → ℕ → ℕ
+entryNumber b i = then (directoryNumber b) (cond (leb (count b) i) 20 (partNumber b i))
+
+unfoldable pub entryPlace : List ℕ → ℕ → Span
+entryPlace b i = cond (eqb (entryNumber b i) 0) (entryPart b (entryStart b i)) nowhere
+
+abbrev pub entryLocated : List ℕ → ℕ → Located
+entryLocated b i = placed (entryNumber b i) false (entryPlace b i)
+
+-- ours: what a directory has, whatever is sought: its number and, where that is 0, how many entries
 unfoldable pub entriesOf : List ℕ → Directory
 entriesOf b = record { code = directoryNumber b; count = cond (eqb (directoryNumber b) 0) (count b) 0 }
 
 -- ours: where the twelve bytes of the name of entry i lie
 unfoldable pub namePlace : List ℕ → ℕ → Span
 namePlace b i = cond (ltb i (entriesOf b .count)) (span (entryStart b i) (entryStart b i + 12)) nowhere
+
+-- ours: whether there is an entry i and it has that name
+unfoldable pub entryHas : List ℕ → List ℕ → ℕ → Bool
+entryHas b name i = isName name && ltb i (entriesOf b .count) && hasName b name i

@@ -1,5 +1,5 @@
 -- What the crate's private functions answer, in the definitions of Css, Cpd and Version. No public contract cites these.
-use Prim.Native.Nat.{ℕ, _+_, _*_, _<_, _^_}
+use Prim.Native.Nat.{ℕ, _+_, _-_, _*_, _<_, _^_}
 use mathlib.Core.Path.{_≡_}
 use mathlib.Core.Bool.{Bool, cond}
 use mathlib.Core.List.{List}
@@ -49,9 +49,9 @@ tableOf b = record {
   count = cond (eqb (Cpd.directoryNumber b) 0) (Cpd.count b) 0;
 }
 
--- the first of count entries from byte start that has the name
-unfoldable pub walked : List ℕ → List ℕ → ℕ → ℕ → ℕ
-walked b name start count = Cpd.firstFrom (λ i. Cpd.agrees b name (start + 24 * i)) 0 count
+-- of count entries from byte start, the first from entry `from` on that has the name
+unfoldable pub walked : List ℕ → List ℕ → ℕ → ℕ → ℕ → ℕ
+walked b name start count from = Cpd.firstFrom (λ i. Cpd.agrees b name (start + 24 * i)) from (count - from)
 
 -- a location in a part that starts at byte at: one that is not shown starts at byte 0
 unfoldable pub outer : ℕ → Located → Located

@@ -86,17 +86,17 @@ fn read_table(blob: &[u8]) -> Table
     }
 }
 
-// The index of the first of `count` entries from byte `start` whose twelve bytes are the key's, or `count`. Each byte of a name is read
-// once: the first four as a dword, which most entries fail, then one after another.
-fn walk(blob: &[u8], start: usize, count: usize, key: [u8; NAME_BYTES]) -> usize
+// Of `count` entries from byte `start`, the index of the first from entry `from` on whose twelve bytes are the key's; where there is none, the index behind
+// them. Each byte of a name is read once: the first four as a dword, which most entries fail, then one after another.
+fn walk(blob: &[u8], start: usize, count: usize, from: usize, key: [u8; NAME_BYTES]) -> usize
     requires { ⌜ start + 24 * count ≤ length (now blob) ⌝ }
-    ensures { λ r. ⌜ r ≡ walked (now (blob .entry)) key start count ⌝ }
+    ensures { λ r. ⌜ r ≡ walked (now (blob .entry)) key start count from ⌝ }
 {
     let first = front(key);
-    let mut i = 0;
+    let mut i = from;
     'entries: loop {
         if count <= i {
-            break 'entries count;
+            break 'entries i;
         }
         let at = start + ENTRY_BYTES * i;
         if dword_at(blob, at) != first {
@@ -139,7 +139,8 @@ fn entry_located(blob: &[u8], t: Table, i: usize) -> Located
     }
 }
 
-// The one judgement of a name sought in a directory: its number, and where its part lies.
+// The one judgement of a name sought in a directory: its number, and where its part lies. The second walk goes on behind the entry found, so each entry's
+// name is read at most once.
 pub fn cpd_located(blob: &[u8], name: &[u8]) -> Located
     ensures { λ r. ⌜ r ≡ Cpd.located (now (blob .entry)) (now (name .entry)) ⌝ }
 {
@@ -148,11 +149,15 @@ pub fn cpd_located(blob: &[u8], name: &[u8]) -> Located
         return refused(refusal::BAD_FIELD);
     }
     let t = read_table(blob);
-    let i = walk(blob, t.start, t.count, key);
+    let i = walk(blob, t.start, t.count, 0, key);
+    let next = walk(blob, t.start, t.count, i + 1, key);
+    if next < t.count {
+        return refused(refusal::DUPLICATE_ENTRY);
+    }
     entry_located(blob, t, i)
 }
 
-// Entry i by its index, for a list of all entries: 20 where there is none. A name that two entries have finds the first of them only.
+// Entry i by its index, for a list of all entries: 20 where there is none. Also entries that share a name, which a seek refuses, have a part each.
 pub fn cpd_entry(blob: &[u8], i: usize) -> Located
     ensures { λ r. ⌜ r ≡ Cpd.entryLocated (now (blob .entry)) i ⌝ }
 {
@@ -198,4 +203,19 @@ pub fn cpd_name(blob: &[u8], i: usize) -> &[u8]
     let from = t.start + ENTRY_BYTES * i;
     let to = from + NAME_BYTES;
     &blob[from..to]
+}
+
+// Whether there is an entry i and it has that name, for telling which entries share one.
+pub fn cpd_has_name(blob: &[u8], i: usize, name: &[u8]) -> bool
+    ensures { λ r. ⌜ r ≡ Cpd.entryHas (now (blob .entry)) (now (name .entry)) i ⌝ }
+{
+    let key = key_of(name);
+    if !is_name(key, name.len()) {
+        return false;
+    }
+    let t = read_table(blob);
+    if t.count <= i {
+        return false;
+    }
+    walk(blob, t.start, i + 1, i, key) == i
 }

@@ -14,6 +14,7 @@ pub use cpd::Directory;
 pub use cpd::cpd_answer;
 pub use cpd::cpd_directory;
 pub use cpd::cpd_entry;
+pub use cpd::cpd_has_name;
 pub use cpd::cpd_located;
 pub use cpd::cpd_name;
 pub use cpd::cpd_part;

@@ -1,4 +1,5 @@
-// The numbers that say no, from 14 on: each with document 01's words for when it is given. The names are those of include/guc.h.
+// The numbers that say no, from 14 on: each with the words of document 01, or of the request that adds it, for when it is given. The names are those of
+// include/guc.h.
 
 // 'field too wide, NUM_DWORDS 0, or name to seek not 1 to 12 bytes without a zero'
 pub const BAD_FIELD: u32 = 14;
@@ -23,3 +24,6 @@ pub const NO_ENTRY: u32 = 20;
 
 // 'entry's part lies beyond the blob'
 pub const CPD_BEYOND: u32 = 21;
+
+// T-03: 'when more than one entry has it', the name sought; tested before 21
+pub const DUPLICATE_ENTRY: u32 = 22;

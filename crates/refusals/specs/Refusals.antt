@@ -1,4 +1,5 @@
--- The customer's demand 1: any input gets an answer, refusals are given exactly when document 01 says, in its order, and leave what its table says.
+-- The customer's demand 1: any input gets an answer, refusals are given exactly when document 01 says, with what the landed requests of document 02 add, in its
+-- order, and leave what its table says.
 -- Each call, the number that it answers, and one statement, Demand1, over the rows of Table.antt.
 use Prim.Native.Nat.{ℕ}
 use mathlib.Core.Path.{_≡_}
@@ -68,7 +69,8 @@ numberOf (hucLocationCall which blob) = Inside.hucLocated which blob .code
 numberOf (hucAnswerCall blob) = Inside.hucAnswer blob .code
 numberOf (hucVersionCall blob) = hucReading blob .number
 
--- 'a part inside a directory is judged only after the directory's own numbers, 14 to 21, have passed'
+-- 'a part inside a directory is judged only after the directory's own numbers, 14 to 21, have passed'; T-03: 'The manifest and CSS readings inside a directory
+-- pass 22 on and promise it.'
 abbrev pub manifestTests : List ℕ → List (List Row)
 manifestTests blob =
     seekTests blob Inside.manifestName ++ (manifestRows (Inside.partNamed blob Inside.manifestName) ∷ [])

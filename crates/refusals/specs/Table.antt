@@ -1,4 +1,5 @@
--- Document 01, 'The numbers that say no', to be laid beside its table: a row for each number, in its order and words, then which rows each call has.
+-- Document 01, 'The numbers that say no', to be laid beside its table: a row for each number, in its order and words, then those that document 02 adds, then
+-- which rows each call has.
 -- A row speaks of the call's inputs alone, never of another row: which of those that apply is the answer, Order.antt and Refusals.antt say.
 use Prim.Native.Nat.{ℕ, _+_, _-_, _*_}
 use mathlib.Core.Bool.{Bool, not, _&&_, _||_}
@@ -142,6 +143,12 @@ abbrev pub row-21 : List ℕ → ℕ → Row
 row-21 blob i =
     row 21 (ltb i (Cpd.count blob) && ltb (length blob) (Cpd.entryPart blob (Cpd.entryStart blob i) .to))
 
+-- ---- what the requests of document 02 add: 'From here on, demand 1 and document 01's table and order include what a request adds.'
+
+-- 22 (T-03) 'when more than one entry has it', the name sought
+abbrev pub row-22 : List ℕ → List ℕ → Row
+row-22 blob name = row 22 (ltb 1 (Cpd.entriesNamed blob name))
+
 -- ---- which rows each call has
 
 -- 'Numbers 6 to 11 belong to looks'
@@ -177,14 +184,15 @@ imageRows blob = row-15 128 blob ∷ row-16 blob ∷ row-17 blob ∷ []
 abbrev pub directoryRows : List ℕ → List Row
 directoryRows blob = row-15 20 blob ∷ row-18 blob ∷ row-19 blob ∷ []
 
--- a name sought: 21 is of 'the first entry whose twelve bytes agree'
+-- a name sought, ahead of what T-03 adds
 abbrev pub seekRows : List ℕ → List ℕ → List Row
-seekRows blob name =
-    row-14-name name ∷ directoryRows blob ++ (row-20 blob name ∷ row-21 blob (Cpd.firstEntry blob name) ∷ [])
+seekRows blob name = row-14-name name ∷ directoryRows blob ++ (row-20 blob name ∷ [])
 
--- the tests of a name sought, one after another: today all its rows are one. A number that is tested out of its order begins a test of its own
+-- the tests of a name sought, one after another: 22 is 'tested after 20 and before 21'. A number that is tested out of its order is a test of its own; 21 is of
+-- 'the first entry whose twelve bytes agree', which by then is the only one
 abbrev pub seekTests : List ℕ → List ℕ → List (List Row)
-seekTests blob name = seekRows blob name ∷ []
+seekTests blob name =
+    seekRows blob name ∷ (row-22 blob name ∷ []) ∷ (row-21 blob (Cpd.firstEntry blob name) ∷ []) ∷ []
 
 -- ours: an entry by its index
 abbrev pub entryRows : List ℕ → ℕ → List Row
