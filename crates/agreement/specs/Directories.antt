@@ -45,37 +45,53 @@ offsetAt b at = dwordAt b (at + 12) % 2 ^ 25
 abbrev pub sizeAt : List ℕ → ℕ → ℕ
 sizeAt b at = dwordAt b (at + 16)
 
--- an entry that has a name that may be sought
+-- where the part of entry i ends: 'Its part starts at the offset from the blob's start.'
+abbrev pub partEnd : List ℕ → ℕ → ℕ
+partEnd b i = offsetAt b (entryAt b i) + sizeAt b (entryAt b i)
+
+-- ours: an entry, by its index, that has a part in the blob
+pub record EntryThere (b : List ℕ) (i : ℕ) : Type 0 where
+  pub of-directory : IsDirectory b
+  pub an-entry : i < dwordAt b 4
+  pub part-there : partEnd b i ≤ length b
+
+-- one of the n entries has a name that may be sought
 pub record EntryNamed (b name : List ℕ) (i : ℕ) : Type 0 where
   pub may-be-sought : IsName name
   pub of-directory : IsDirectory b
   pub an-entry : i < dwordAt b 4
   pub named : HasName b name i
 
--- an entry that has a part in the blob
-pub record EntryThere (b : List ℕ) (i : ℕ) : Type 0 where
-  pub of-directory : IsDirectory b
-  pub an-entry : i < dwordAt b 4
-  pub part-there : offsetAt b (entryAt b i) + sizeAt b (entryAt b i) ≤ length b
-
--- the entry that a seek answers: it has the name, and no other entry has
-pub record Sought (b name : List ℕ) : Type 0 where
-  pub may-be-sought : IsName name
-  pub i : ℕ
-  pub entry : EntryThere b i
-  pub named : HasName b name i
+-- it is the only one that has it
+pub record OnlyNamed (b name : List ℕ) (i : ℕ) : Type 0 where
+  pub entry : EntryNamed b name i
   pub only : (j : ℕ) → j < dwordAt b 4 → HasName b name j → j ≡ i
 
--- T-03: 'more than one entry has it': two of the n entries, whatever else is in them and wherever their parts lie
-pub record SharedName (b name : List ℕ) : Type 0 where
+-- what a seek accepts: the only entry that has the name, its part in the blob
+pub record Found (b name : List ℕ) : Type 0 where
+  pub i : ℕ
+  pub alone : OnlyNamed b name i
+  pub part-there : partEnd b i ≤ length b
+
+-- 20 'no entry of that name'
+pub record NoneNamed (b name : List ℕ) : Type 0 where
   pub may-be-sought : IsName name
   pub of-directory : IsDirectory b
+  pub none : (i : ℕ) → i < dwordAt b 4 → HasName b name i → ⊥
+
+-- 22 (T-03) 'when more than one entry has it': two of the n entries, whatever else is in them and wherever their parts lie
+pub record SharedName (b name : List ℕ) : Type 0 where
   pub i : ℕ
   pub j : ℕ
   pub apart : i < j
-  pub an-entry : j < dwordAt b 4
-  pub named-i : HasName b name i
-  pub named-j : HasName b name j
+  pub entry-i : EntryNamed b name i
+  pub entry-j : EntryNamed b name j
+
+-- 21 'entry's part lies beyond the blob', of the only entry that has the name
+pub record PartBeyond (b name : List ℕ) : Type 0 where
+  pub i : ℕ
+  pub alone : OnlyNamed b name i
+  pub beyond : length b < partEnd b i
 
 -- the image in `huc_fw`, where the directory's own numbers pass, 'is judged by the CSS rules as a blob of its own'
 pub record HucInside (b : List ℕ) (image : List ℕ) (start : ℕ) : Type 0 where
@@ -100,12 +116,14 @@ pub record ManifestInside (b : List ℕ) (part : List ℕ) : Type 0 where
 
 -- of every blob and name
 pub record Directories : Type 0 where
-  -- accepted exactly when there is such an entry; 'Its part starts at the offset from the blob's start.'
-  pub exactly : (b name : List ℕ) → (Cpd.number b name ≡ 0) ↔ Sought b name
+  -- accepted exactly when one entry has the name and its part is there
+  pub exactly : (b name : List ℕ) → (Cpd.number b name ≡ 0) ↔ Found b name
   -- T-03: 'Seeking a name must refuse with a new number 22 when more than one entry has it, tested after 20 and before 21'
+  pub none-named : (b name : List ℕ) → (Cpd.number b name ≡ 20) ↔ NoneNamed b name
   pub shared : (b name : List ℕ) → (Cpd.number b name ≡ 22) ↔ SharedName b name
+  pub beyond : (b name : List ℕ) → (Cpd.number b name ≡ 21) ↔ PartBeyond b name
   pub part :
-      (b name : List ℕ) (x : Sought b name)
+      (b name : List ℕ) (x : Found b name)
       → At (offsetAt b (entryAt b (x .i))) (sizeAt b (entryAt b (x .i))) (Cpd.located b name)
   pub same-number : (b name : List ℕ) → Cpd.located b name .code ≡ Cpd.number b name
   pub not-truncated : (b name : List ℕ) → Cpd.located b name .truncated ≡ false
@@ -132,8 +150,11 @@ pub record Directories : Type 0 where
 
 -- what lies inside a directory, of every blob
 pub record InsideDirectories : Type 0 where
-  -- 'a part inside a directory is judged only after the directory's own numbers, 14 to 21, have passed': until then they are the answer; T-03: 'The manifest and
-  -- CSS readings inside a directory pass 22 on and promise it.'
+  -- T-03: 'The manifest and CSS readings inside a directory pass 22 on and promise it.'
+  pub manifest-shared : (b : List ℕ) → (manifestReading b .number ≡ 22) ↔ SharedName b manifestName
+  pub huc-shared : (which : Component) (b : List ℕ) → (hucLocated which b .code ≡ 22) ↔ SharedName b hucName
+  pub huc-shared-reading : (b : List ℕ) → (hucReading b .number ≡ 22) ↔ SharedName b hucName
+  -- 'a part inside a directory is judged only after the directory's own numbers, 14 to 21, have passed', 22 among them: until then they are the answer
   pub huc-outside :
       (which : Component) (b : List ℕ) → (Cpd.number b hucName ≡ 0 → ⊥) → EmptyAtStart (Cpd.number b hucName) (hucLocated which b)
   pub huc-outside-reading :

@@ -1,5 +1,6 @@
 pub mod Tests
 pub mod Search
+pub mod Count
 pub mod Names
 pub mod Lies
 pub mod Read

@@ -12,7 +12,8 @@ use Rattle.firmware.specs.Cpd
 use Rattle.firmware.specs.Private.{Keyed, tableOf, walked}
 use Rattle.firmware.specs.declared.cpd.Table.{Table}
 use Rattle.firmware.proofs.Names.{keyed-walked}
-use Rattle.firmware.proofs.Search.{count-met, count-none, first-within}
+use Rattle.firmware.proofs.Count.{count-met, count-none}
+use Rattle.firmware.proofs.Search.{first-within}
 use Rattle.firmware.proofs.Tests.{cases}
 
 -- a directory judged

@@ -1,4 +1,4 @@
--- Laws of `all`, `firstFrom` and `countFrom`: how a walk goes on, how it ends and what it has met. Assumes nothing.
+-- Laws of `all` and `firstFrom`: how a walk goes on and how it ends. Assumes nothing.
 use Prim.Native.Nat.{ℕ, zero, suc, _+_, _-_, _≤_, _<_}
 use mathlib.Core.Path.{_≡_, refl, sym, ap, _∙_}
 use mathlib.Core.Bool.{Bool, true, false, not, cond, and-false}
@@ -6,7 +6,7 @@ use native.Mathlib.Numerals.{add-one}
 use mathlib.Core.Logic.{⊎-elim}
 use native.Mathlib.Nat.{eq-or-lt-of-le}
 use native.Mathlib.Omega.{arith}
-use Rattle.firmware.specs.Cpd.{all, countFrom, firstFrom}
+use Rattle.firmware.specs.Cpd.{all, firstFrom}
 use lib.Dec.{leb, ltb}
 use borrow.Author.Tests.{leb-true, leb-false, ltb-true, ltb-false}
 use Rattle.firmware.proofs.Tests.{both, cases, true-false}
@@ -99,31 +99,6 @@ first-within p i (suc n) =
     cases (p i)
     (λ t. rw t (omega arith, omega arith))
     (λ t. let g = first-within p (suc i) n in rw t (omega (arith, g .0), omega (arith, g .1)))
-
--- how many numbers hold: none where the walk comes to its end, else the one that it comes to and those behind it
-pub count-none : (p : ℕ → Bool) (i n : ℕ) → i + n ≤ firstFrom p i n → countFrom p i n ≡ 0
-unfolding firstFrom countFrom
-count-none p i zero h = refl
-count-none p i (suc n) h =
-    cases (p i)
-    (λ t. let g : i + suc n ≤ i = rw t at h in absurd (omega arith))
-    (λ t.
-    let g : i + suc n ≤ firstFrom p (suc i) n = rw t at h in
-    rw t (omega (arith, count-none p (suc i) n (omega arith))))
-
-pub count-met : (p : ℕ → Bool) (i n f : ℕ) → f ≡ firstFrom p i n → f < i + n → countFrom p i n ≡ 1 + countFrom p (f + 1) (i + n - (f + 1))
-unfolding firstFrom countFrom
-count-met p i zero f e l = absurd (omega (arith, e))
-count-met p i (suc n) f e l =
-    cases (p i)
-    (λ t.
-    let g : f ≡ i = rw t at e in
-    let d : i + suc n - (i + 1) ≡ n = omega arith in
-    rw (t, g, d, add-one i))
-    (λ t.
-    let g : f ≡ firstFrom p (suc i) n = rw t at e in
-    let d : i + suc n ≡ suc i + n = omega arith in
-    rw (t, d) (omega (arith, count-met p (suc i) n f g (omega arith))))
 
 -- no number holds exactly where the walk comes to its end
 pub none-met : (p : ℕ → Bool) (n : ℕ) → all (λ j. not (p j)) n ≡ leb n (firstFrom p 0 n)

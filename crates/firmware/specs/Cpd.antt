@@ -69,7 +69,7 @@ agrees b name at = all (λ j. eqb (getD b (at + j) 0) (getD name j 0)) 12
 abbrev pub hasName : List ℕ → List ℕ → ℕ → Bool
 hasName b name i = agrees b name (entryStart b i)
 
--- 'the first entry whose twelve bytes agree': its index, or n where there is none
+-- the first entry that has the name: its index, or n where there is none. A seek answers it only where it is the only one
 unfoldable pub firstEntry : List ℕ → List ℕ → ℕ
 firstEntry b name = firstFrom (hasName b name) 0 (count b)
 
@@ -97,7 +97,7 @@ place b name = cond (eqb (number b name) 0) (entryPart b (entryStart b (firstEnt
 abbrev pub located : List ℕ → List ℕ → Located
 located b name = placed (number b name) false (place b name)
 
--- ours, for a list of all entries: entry i by its index, whatever its name: the directory's own numbers, 20 where there is no such entry, then 21
+-- ours, for a list of all entries: entry i by its index: 15, 18 and 19, then 20 where there is no such entry, then 21. No name is sought, so there is no 22
 unfoldable pub entryNumber : List ℕ → ℕ → ℕ
 entryNumber b i = then (directoryNumber b) (cond (leb (count b) i) 20 (partNumber b i))
 
@@ -115,6 +115,6 @@ entriesOf b = record { code = directoryNumber b; count = cond (eqb (directoryNum
 unfoldable pub namePlace : List ℕ → ℕ → Span
 namePlace b i = cond (ltb i (entriesOf b .count)) (span (entryStart b i) (entryStart b i + 12)) nowhere
 
--- ours: whether there is an entry i and it has that name
+-- ours: whether the name may be sought, there is an entry i, and it has that name
 unfoldable pub entryHas : List ℕ → List ℕ → ℕ → Bool
 entryHas b name i = isName name && ltb i (entriesOf b .count) && hasName b name i

@@ -1,5 +1,5 @@
 -- Parts inside a directory (document 01, 'Firmware images', and 'The numbers that say no': 'a part inside a directory is judged only after the directory's own
--- numbers, 14 to 21, have passed'; document 02, T-03: 'The manifest and CSS readings inside a directory pass 22 on and promise it.').
+-- numbers, 14 to 21, have passed', 22 among them since document 02's T-03: 'The manifest and CSS readings inside a directory pass 22 on and promise it.').
 use Prim.Native.Nat.{ℕ, _+_}
 use mathlib.Core.Bool.{Bool, _&&_, cond}
 use mathlib.Core.List.{List, [], _∷_}

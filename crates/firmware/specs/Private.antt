@@ -49,7 +49,8 @@ tableOf b = record {
   count = cond (eqb (Cpd.directoryNumber b) 0) (Cpd.count b) 0;
 }
 
--- of count entries from byte start, the first from entry `from` on that has the name
+-- of count entries from byte start, the first from entry `from` on that has the name, or where there is none the one behind them (from, where that is behind
+-- them already)
 unfoldable pub walked : List ℕ → List ℕ → ℕ → ℕ → ℕ → ℕ
 walked b name start count from = Cpd.firstFrom (λ i. Cpd.agrees b name (start + 24 * i)) from (count - from)
 

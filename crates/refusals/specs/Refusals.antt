@@ -42,7 +42,7 @@ pub data PublicCall : Type 0 where
   -- a name sought in a directory: cpd_located (handed out by cpd_part), cpd_answer
   nameLocationCall : List ℕ → List ℕ → PublicCall
   nameAnswerCall : List ℕ → List ℕ → PublicCall
-  -- ours, for a list of all entries: cpd_directory, cpd_entry
+  -- ours, for a list of all entries: cpd_directory, cpd_entry (cpd_name and cpd_has_name answer no number)
   directoryCall : List ℕ → PublicCall
   entryCall : List ℕ → ℕ → PublicCall
   -- inside a directory: manifest_version; huc_located (handed out by huc_part, huc_ucode, huc_rsa, huc_modulus, huc_exponent), huc_answer, huc_version
@@ -69,8 +69,8 @@ numberOf (hucLocationCall which blob) = Inside.hucLocated which blob .code
 numberOf (hucAnswerCall blob) = Inside.hucAnswer blob .code
 numberOf (hucVersionCall blob) = hucReading blob .number
 
--- 'a part inside a directory is judged only after the directory's own numbers, 14 to 21, have passed'; T-03: 'The manifest and CSS readings inside a directory
--- pass 22 on and promise it.'
+-- 'a part inside a directory is judged only after the directory's own numbers, 14 to 21, have passed', 22 among them since T-03: 'The manifest and CSS readings
+-- inside a directory pass 22 on and promise it.'
 abbrev pub manifestTests : List ℕ → List (List Row)
 manifestTests blob =
     seekTests blob Inside.manifestName ++ (manifestRows (Inside.partNamed blob Inside.manifestName) ∷ [])

@@ -130,9 +130,13 @@ row-18 blob = row 18 (not (Cpd.hasMarker blob) || ltb (Cpd.headerLength blob) 20
 abbrev pub row-19 : List ℕ → Row
 row-19 blob = row 19 (ltb (length blob) (Cpd.headerLength blob + 24 * Cpd.count blob))
 
+-- whether there is a number below n of which p holds
+abbrev pub any : (ℕ → Bool) → ℕ → Bool
+any p n = not (Cpd.all (λ i. not (p i)) n)
+
 -- 20 'no entry of that name': not one of the n entries has it
 abbrev pub row-20 : List ℕ → List ℕ → Row
-row-20 blob name = row 20 (Cpd.all (λ i. not (Cpd.agrees blob name (Cpd.entryStart blob i))) (Cpd.count blob))
+row-20 blob name = row 20 (not (any (Cpd.hasName blob name) (Cpd.count blob)))
 
 -- ours, for an entry by its index: there is no such entry
 abbrev pub row-20-index : List ℕ → ℕ → Row
@@ -145,9 +149,9 @@ row-21 blob i =
 
 -- ---- what the requests of document 02 add: 'From here on, demand 1 and document 01's table and order include what a request adds.'
 
--- 22 (T-03) 'when more than one entry has it', the name sought
+-- 22 (T-03) 'when more than one entry has it', the name sought: one of the n entries, and one before that
 abbrev pub row-22 : List ℕ → List ℕ → Row
-row-22 blob name = row 22 (ltb 1 (Cpd.entriesNamed blob name))
+row-22 blob name = row 22 (any (λ j. Cpd.hasName blob name j && any (Cpd.hasName blob name) j) (Cpd.count blob))
 
 -- ---- which rows each call has
 
@@ -184,15 +188,14 @@ imageRows blob = row-15 128 blob ∷ row-16 blob ∷ row-17 blob ∷ []
 abbrev pub directoryRows : List ℕ → List Row
 directoryRows blob = row-15 20 blob ∷ row-18 blob ∷ row-19 blob ∷ []
 
--- a name sought, ahead of what T-03 adds
-abbrev pub seekRows : List ℕ → List ℕ → List Row
-seekRows blob name = row-14-name name ∷ directoryRows blob ++ (row-20 blob name ∷ [])
-
 -- the tests of a name sought, one after another: 22 is 'tested after 20 and before 21'. A number that is tested out of its order is a test of its own; 21 is of
--- 'the first entry whose twelve bytes agree', which by then is the only one
+-- the first entry that has the name, which by then is the only one
 abbrev pub seekTests : List ℕ → List ℕ → List (List Row)
 seekTests blob name =
-    seekRows blob name ∷ (row-22 blob name ∷ []) ∷ (row-21 blob (Cpd.firstEntry blob name) ∷ []) ∷ []
+    (row-14-name name ∷ directoryRows blob ++ (row-20 blob name ∷ []))
+    ∷ (row-22 blob name ∷ [])
+    ∷ (row-21 blob (Cpd.firstEntry blob name) ∷ [])
+    ∷ []
 
 -- ours: an entry by its index
 abbrev pub entryRows : List ℕ → ℕ → List Row
