@@ -1,14 +1,15 @@
 -- Code partition directories agree with document 01. Assumes nothing.
-use Prim.Native.Nat.{ℕ, _+_, _-_, _*_, _≤_, _<_}
-use mathlib.Core.Path.{_≡_, refl, sym, ap, _∙_, subst}
-use mathlib.Core.Bool.{Bool, true, false, not, _&&_, cond}
-use mathlib.Core.List.{List, [], _∷_}
+use Prim.Native.Nat.{ℕ, _+_, _-_, _<_}
+use mathlib.Core.Path.{_≡_, refl, sym, ap, _∙_}
+use mathlib.Core.Logic.{_↔_}
+use mathlib.Core.Bool.{Bool, true, false, cond}
+use mathlib.Core.List.{List, []}
 use native.Mathlib.Omega.{arith}
-use lib.ListN.{length, getD}
-use lib.Dec.{eqb, leb, ltb}
-use borrow.Author.Tests.{eq-eqb, eqb-true, ne-eqb, le-leb, leb-true, leb-false, lt-leb, le-ltb, lt-ltb, ltb-true, ltb-false, not-false}
-use denote.Ref.{RefT, now}
-use Rattle.firmware.specs.Bytes.{nowhere, placed, span}
+use lib.ListN.{length}
+use lib.Dec.{eqb, ltb}
+use borrow.Author.Tests.{eq-eqb, ne-eqb, le-ltb, lt-ltb}
+use denote.Ref.{now}
+use Rattle.firmware.specs.Bytes.{then}
 use Rattle.firmware.specs.Css
 use Rattle.firmware.specs.Cpd
 use Rattle.firmware.specs.Inside.{hucName, hucBlob, hucLocated, hucNumber, hucPlace, hucTruncated, manifestName, manifestNumber, partNamed, within}
@@ -17,160 +18,14 @@ use Rattle.firmware.specs.Private.{outer}
 use Rattle.firmware.specs.declared.bytes.Located.{Located}
 use Rattle.firmware.specs.declared.css.Component.{Component}
 use Rattle.firmware.proofs.Inner.{found-bytes, huc-found}
-use Rattle.firmware.proofs.Lies.{cpd-lies, huc-lies, located-ends, located-span}
+use Rattle.firmware.proofs.Lies.{cpd-lies, huc-lies, located-ends}
 use Rattle.firmware.proofs.Nowhere.{huc-outside-nowhere, name-nowhere}
-use Rattle.firmware.proofs.Search.{all-each, all-holds, first-at, first-met, first-unmet}
-use Rattle.firmware.proofs.Tests.{both, both-pass, cases, true-false, unmet}
-use Rattle.agreement.specs.Images.{At, bytesOf}
-use Rattle.agreement.specs.Directories.{Directories, EntryThere, HasName, HucInside, InsideDirectories, IsDirectory, IsName, ManifestInside, Sought, entryAt, offsetAt, sizeAt}
+use Rattle.firmware.proofs.Tests.{cases}
+use Rattle.agreement.specs.Images.{bytesOf}
+use Rattle.agreement.specs.Directories.{Directories, HucInside, InsideDirectories, ManifestInside, SharedName}
 use Rattle.agreement.proofs.Images.{empty-at-start, very-bytes}
-
--- ---- a directory, and its entries
-
-directory-is : (b : List ℕ) → Cpd.directoryNumber b ≡ 0 → IsDirectory b
-unfolding Cpd.directoryNumber Cpd.hasMarker
-directory-is b e =
-    let u = unmet (ltb (length b) 20) 15 _ refl e in
-    let v = unmet (not (Cpd.hasMarker b && leb 20 (Cpd.headerLength b))) 18 _ refl (u .1) in
-    let w = unmet (ltb (length b) (Cpd.headerLength b + 24 * Cpd.count b)) 19 0 refl (v .1) in
-    let x = both (Cpd.hasMarker b) (leb 20 (Cpd.headerLength b)) (not-false _ (v .0)) in
-    let y₃ = both _ (eqb (getD b 3 0) 0x44) (x .0) in
-    let y₂ = both _ (eqb (getD b 2 0) 0x50) (y₃ .0) in
-    let y₁ = both (eqb (getD b 0 0) 0x24) (eqb (getD b 1 0) 0x43) (y₂ .0) in
-    record {
-      has-header = ltb-false (length b) 20 (u .0);
-      marker-0 = eqb-true _ _ (y₁ .0);
-      marker-1 = eqb-true _ _ (y₁ .1);
-      marker-2 = eqb-true _ _ (y₂ .1);
-      marker-3 = eqb-true _ _ (y₃ .1);
-      header-length = leb-true 20 (getD b 10 0) (x .1);
-      there = ltb-false (length b) (Cpd.headerLength b + 24 * Cpd.count b) (w .0);
-    }
-
-directory-passes : (b : List ℕ) → IsDirectory b → Cpd.directoryNumber b ≡ 0
-unfolding Cpd.directoryNumber Cpd.hasMarker
-directory-passes b x =
-    simp
-    (le-ltb (length b) 20 (x .has-header), x .marker-0, x .marker-1, x .marker-2, x .marker-3, le-leb 20 (getD b 10 0) (x .header-length), le-ltb (length b) (getD b 10 0 + 24 * Cpd.count b) (x .there))
-
-entry-is : (b : List ℕ) (i : ℕ) → Cpd.entryNumber b i ≡ 0 → EntryThere b i
-unfolding Cpd.entryNumber
-entry-is b i e =
-    let u = both-pass (Cpd.directoryNumber b) _ e in
-    let v = unmet (leb (Cpd.count b) i) 20 _ refl (u .1) in
-    let w = unmet (ltb (length b) (Cpd.entryPart b (Cpd.entryStart b i) .to)) 21 0 refl (v .1) in
-    record {
-      of-directory = directory-is b (u .0);
-      an-entry = leb-false (Cpd.count b) i (v .0);
-      part-there = ltb-false (length b) (Cpd.entryPart b (Cpd.entryStart b i) .to) (w .0);
-    }
-
-entry-passes : (b : List ℕ) (i : ℕ) → EntryThere b i → Cpd.entryNumber b i ≡ 0
-unfolding Cpd.entryNumber
-entry-passes b i x =
-    simp
-    (directory-passes b (x .of-directory), lt-leb (Cpd.count b) i (x .an-entry), le-ltb (length b) (Cpd.entryPart b (Cpd.entryStart b i) .to) (x .part-there))
-
--- where its part lies
-entry-at : (b : List ℕ) (i : ℕ) → Cpd.entryNumber b i ≡ 0 → Cpd.entryPlace b i ≡ Cpd.entryPart b (Cpd.entryStart b i)
-unfolding Cpd.entryPlace
-entry-at b i e = rw e
-
-part-at : (b : List ℕ) (i : ℕ) (l : Located) → l ≡ placed 0 false (Cpd.entryPart b (Cpd.entryStart b i)) → At (offsetAt b (entryAt b i)) (sizeAt b (entryAt b i)) l
-part-at b i l e = rw e (record { accepted = refl; starts = refl; size = omega arith })
-
-entry-count : (b : List ℕ) → Cpd.directoryNumber b ≡ 0 → Cpd.entriesOf b .count ≡ Cpd.count b
-unfolding Cpd.entriesOf
-entry-count b e = rw e
-
-entry-name : (b : List ℕ) (i : ℕ) → IsDirectory b → i < Cpd.count b → Cpd.namePlace b i ≡ span (entryAt b i) (entryAt b i + 12)
-unfolding Cpd.namePlace
-entry-name b i x l = rw (entry-count b (directory-passes b x), lt-ltb i (Cpd.count b) l)
-
-no-entry-name : (b : List ℕ) (i : ℕ) → (IsDirectory b → i < Cpd.count b → ⊥) → Cpd.namePlace b i ≡ nowhere
-unfolding Cpd.namePlace Cpd.entriesOf
-no-entry-name b i f =
-    cases (eqb (Cpd.directoryNumber b) 0)
-    (λ t.
-    let e : Cpd.directoryNumber b ≡ 0 = eqb-true (Cpd.directoryNumber b) 0 t in
-    cases (ltb i (Cpd.count b)) (λ u. absurd (f (directory-is b e) (ltb-true i (Cpd.count b) u))) (λ u. rw (t, u)))
-    (λ t. rw (t, le-ltb i 0 (omega arith)))
-
--- ---- the part of a name
-
-name-is : (name : List ℕ) → Cpd.isName name ≡ true → IsName name
-unfolding Cpd.isName
-name-is name e =
-    let u = both (leb 1 (length name) && leb (length name) 12) (Cpd.all (Cpd.nonzero name) (length name)) e in
-    let v = both (leb 1 (length name)) (leb (length name) 12) (u .0) in
-    record {
-      one = leb-true 1 (length name) (v .0);
-      twelve = leb-true (length name) 12 (v .1);
-      no-zero = λ j l z. true-false (sym (all-holds (Cpd.nonzero name) (length name) j l (u .1)) ∙ ap not (eq-eqb (getD name j 0) 0 z));
-    }
-
-name-passes : (name : List ℕ) → IsName name → Cpd.isName name ≡ true
-unfolding Cpd.isName
-name-passes name x =
-    simp
-    (le-leb 1 (length name) (x .one), le-leb (length name) 12 (x .twelve), all-each (Cpd.nonzero name) (length name) (λ j l. ap not (ne-eqb (getD name j 0) 0 (x .no-zero j l))))
-
-module _ (b name : List ℕ) where
-  -- entry i has the name, as the walk tests it
-  abbrev has : ℕ → Bool
-  has i = Cpd.agrees b name (Cpd.entryStart b i)
-
-  has-name : (i : ℕ) → has i ≡ true → HasName b name i
-  has-name i e j l = eqb-true _ _ (all-holds (λ j. eqb (getD b (Cpd.entryStart b i + j) 0) (getD name j 0)) 12 j l e)
-
-  name-has : (i : ℕ) → HasName b name i → has i ≡ true
-  name-has i f = all-each (λ j. eqb (getD b (Cpd.entryStart b i + j) 0) (getD name j 0)) 12 (λ j l. eq-eqb _ _ (f j l))
-
-  module _ (z : Cpd.number b name ≡ 0) where
-    is-name : not (Cpd.isName name) ≡ false
-    unfolding Cpd.number
-    is-name = unmet (not (Cpd.isName name)) 14 _ refl z .0
-
-    named-entry : Cpd.entryNumber b (Cpd.firstEntry b name) ≡ 0
-    unfolding Cpd.number
-    named-entry = unmet (not (Cpd.isName name)) 14 _ refl z .1
-
-    named-there : EntryThere b (Cpd.firstEntry b name)
-    named-there = entry-is b (Cpd.firstEntry b name) named-entry
-
-    found-has : has (Cpd.firstEntry b name) ≡ true
-    unfolding Cpd.firstEntry
-    found-has = first-met (λ i. has i) 0 (Cpd.count b) (omega (arith, named-there .an-entry))
-
-    none-before : (j : ℕ) → j < Cpd.firstEntry b name → has j ≡ false
-    unfolding Cpd.firstEntry
-    none-before j l = first-unmet (λ i. has i) 0 (Cpd.count b) j (omega arith) l
-
-    sought-is : Sought b name
-    sought-is =
-        record {
-          may-be-sought = name-is name (not-false _ is-name);
-          i = Cpd.firstEntry b name;
-          entry = named-there;
-          named = has-name (Cpd.firstEntry b name) found-has;
-          first = λ j l f. true-false (sym (name-has j f) ∙ none-before j l);
-        }
-
-  module _ (x : Sought b name) where
-    -- the walk comes to that entry
-    comes-to : Cpd.firstEntry b name ≡ x .i
-    unfolding Cpd.firstEntry
-    comes-to =
-        first-at (λ i. has i) (Cpd.count b) (x .i) (x .entry .an-entry) (name-has (x .i) (x .named))
-        (λ j l. cases (has j) (λ t. absurd (x .first j l (has-name j t))) (λ t. t))
-
-    sought-passes : Cpd.number b name ≡ 0
-    unfolding Cpd.number
-    sought-passes = simp (name-passes name (x .may-be-sought), comes-to, entry-passes b (x .i) (x .entry))
-
-    sought-located : Cpd.located b name ≡ placed 0 false (Cpd.entryPart b (Cpd.entryStart b (x .i)))
-    unfolding Cpd.place
-    sought-located = simp (sought-passes, name-passes name (x .may-be-sought), comes-to, entry-at b (x .i) (entry-passes b (x .i) (x .entry)))
+use Rattle.agreement.proofs.Entries.{directory-is, directory-passes, entry-at, entry-count, entry-is, entry-name, entry-passes, no-entry-name, part-at}
+use Rattle.agreement.proofs.Seeks.{beyond-answers, beyond-is, found-is, found-located, found-passes, has-is, is-has, none-answers, none-is, image-below, shared-answers, shared-is}
 
 -- ---- inside
 
@@ -243,14 +98,40 @@ module _ (b : List ℕ) (z : Cpd.number b manifestName ≡ 0) where
         long-enough = λ l. long (le-ltb _ 44 l);
       }
 
+-- what lies inside is never refused by 22 of its own, so 22 there is the directory's
+module _ (b name : List ℕ) (after : ℕ) (below : after < 20) where
+  passed-on : then (Cpd.number b name) after ≡ 22 → SharedName b name
+  passed-on e =
+      cases (eqb (Cpd.number b name) 0)
+      (λ t. let w : after ≡ 22 = rw t at e in absurd (omega (arith, below, w)))
+      (λ t. let w : Cpd.number b name ≡ 22 = rw t at e in shared-is b name w)
+
+  promised : SharedName b name → then (Cpd.number b name) after ≡ 22
+  promised x = rw (shared-answers b name x)
+
+manifest-below : (t : Bool) → cond t 15 0 < 20
+manifest-below true = omega arith
+manifest-below false = omega arith
+
+manifest-shared : (b : List ℕ) → (manifestNumber b ≡ 22) ↔ SharedName b manifestName
+unfolding manifestNumber
+manifest-shared b = let l = manifest-below (ltb (length (partNamed b manifestName)) 44) in (passed-on b manifestName _ l, promised b manifestName _ l)
+
+huc-shared : (b : List ℕ) → (hucNumber b ≡ 22) ↔ SharedName b hucName
+unfolding hucNumber
+huc-shared b = let l = image-below (hucBlob b) in (passed-on b hucName _ l, promised b hucName _ l)
+
 -- ---- every blob
 
 pub directories : Directories
 unfolding Cpd.entriesOf
 directories =
     record {
-      exactly = λ b name. (sought-is b name, sought-passes b name);
-      part = λ b name x. part-at b (x .i) _ (sought-located b name x);
+      exactly = λ b name. (found-is b name, found-passes b name);
+      none-named = λ b name. (none-is b name, none-answers b name);
+      shared = λ b name. (shared-is b name, shared-answers b name);
+      beyond = λ b name. (beyond-is b name, beyond-answers b name);
+      part = λ b name x. part-at b (x .i) _ (found-located b name x);
       same-number = λ b name. refl;
       not-truncated = λ b name. refl;
       refused = λ b name z. empty-at-start (Cpd.number b name) false _ (rw (name-nowhere b name (ne-eqb (Cpd.number b name) 0 z)));
@@ -263,12 +144,16 @@ directories =
       entry-not-truncated = λ b i. refl;
       entry-name = entry-name;
       no-entry-name = no-entry-name;
+      entry-has = λ b name i. (has-is b name i, is-has b name i);
     }
 
 pub inside : InsideDirectories
 unfolding hucReading manifestReading hucNumber manifestNumber reading
 inside =
     record {
+      manifest-shared = manifest-shared;
+      huc-shared = λ which. huc-shared;
+      huc-shared-reading = huc-shared;
       huc-outside = λ which b z. empty-at-start (Cpd.number b hucName) false _ (huc-outside-nowhere b which (ne-eqb (Cpd.number b hucName) 0 z));
       huc-outside-reading = λ b z. let n = ne-eqb (Cpd.number b hucName) 0 z in (rw n, rw (n, n));
       huc-inside = huc-inside;

@@ -1,17 +1,16 @@
 -- CSS images agree with document 01. Assumes nothing.
 use Prim.Native.Nat.{ℕ, _+_, _-_, _*_, _≤_, _<_}
-use mathlib.Core.Path.{_≡_, refl, sym, ap, _∙_}
+use mathlib.Core.Path.{_≡_, refl, ap, _∙_}
 use mathlib.Core.Logic.{_↔_}
-use mathlib.Core.Bool.{Bool, true, false, not, _&&_, cond}
-use mathlib.Core.List.{List, []}
+use mathlib.Core.Bool.{Bool, true, false, not, _&&_}
+use mathlib.Core.List.{List}
 use native.Mathlib.Omega.{arith}
 use lib.ListN.{length}
-use lib.Dec.{eqb, leb, ltb}
 use borrow.Author.Tests.{eq-eqb, eqb-true, ne-eqb, leb-false, le-leb, le-ltb, lt-leb, lt-ltb, not-true}
 use denote.Ref.{RefT, now}
 use Rattle.firmware.specs.Bytes.{PartOf, Span, nowhere, placed}
 use Rattle.firmware.specs.Css
-use Rattle.firmware.specs.Version.{cssReading, cssVersion, reading}
+use Rattle.firmware.specs.Version.{cssReading, reading}
 use Rattle.firmware.specs.declared.bytes.Located.{Located}
 use Rattle.firmware.specs.declared.css.Component.{Component}
 use Rattle.firmware.specs.declared.css.Component.the-variants.{Ucode, Rsa, Modulus, Exponent}

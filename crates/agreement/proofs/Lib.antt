@@ -1,3 +1,5 @@
 pub mod VeryDwords
 pub mod Images
+pub mod Entries
+pub mod Seeks
 pub mod Directories

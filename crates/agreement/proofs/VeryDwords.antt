@@ -1,20 +1,19 @@
 -- What is sent and handed out is what was judged. Assumes nothing.
-use Prim.Native.Nat.{ℕ, _+_, _-_, _%_, _≤_, _<_}
+use Prim.Native.Nat.{ℕ, _+_, _-_, _%_, _≤_}
 use mathlib.Core.Path.{_≡_, refl, sym, ap, _∙_, subst}
-use mathlib.Core.Bool.{Bool, true, false, _||_, cond}
-use mathlib.Core.List.{List, [], _∷_, _++_}
+use mathlib.Core.Bool.{true, _||_, cond}
+use mathlib.Core.List.{List, _++_}
 use native.Mathlib.Omega.{arith}
 use native.Mathlib.Nat.{mod-eq-of-lt}
-use lib.ListN.{length, getD, take, drop, set, replicate}
+use lib.ListN.{length, getD, take, drop, set}
 use lib.Seq.{drop-append-seam, getD-take, length-take-le, take-append-seam}
-use lib.Dec.{eqb, leb, ltb}
+use lib.Dec.{eqb, leb}
 use borrow.Author.Tests.{eq-eqb, eqb-true, leb-true}
 use Rattle.message.proofs.Tests.{and-l, and-r, cases}
 use Rattle.message.proofs.Formed.{message-i, well-formed}
 use Rattle.message.specs.Header.{isMessage, totalLength, wellFormed}
-use Rattle.runs.specs.Buffer.{window}
 use Rattle.runs.proofs.Ring.{window-at, window-length}
-use Rattle.ring.specs.AtOnce.{lengthAt, messageAt, receiveBy, receiveNumber, sendBy, wholeReceive, wholeSend}
+use Rattle.ring.specs.AtOnce.{lengthAt, messageAt, receiveBy, receiveNumber, sendBy}
 use Rattle.ring.specs.Numbers.{marked, need, receiveDecision, takeDecision}
 use Rattle.ring.specs.Ring.{HEAD, head, status, tail}
 use Rattle.ring.proofs.Chains.{entered-fits, entered-rest, passed, passed-rest, true-false}

@@ -5,20 +5,19 @@ use mathlib.Core.Bool.{Bool, true, false, not, _&&_, _||_, cond}
 use mathlib.Core.List.{List, [], _∷_, _++_}
 use mathlib.Core.Option.{Option, none, some}
 use native.Mathlib.Omega.{arith}
-use lib.ListN.{length}
 use lib.Dec.{eqb, leb, ltb}
 use borrow.Author.Tests.{eqb-true, eqb-false, le-leb, leb-false, lt-leb, lt-ltb, ltb-false, ltb-true, ne-eqb, not-true}
 use Rattle.message.proofs.Tests.{and-l, and-r, cases}
 use Rattle.message.proofs.Agreement.{agreement}
 use Rattle.message.specs.Fields.{dword, fit}
 use Rattle.message.specs.Header.{isMessage}
-use Rattle.message.specs.Packing.{Answer, headerFields, hxgFields, pack, packAnswer, refusing, unpack, unpackAnswer}
+use Rattle.message.specs.Packing.{headerFields, hxgFields, pack, packAnswer, refusing, unpack, unpackAnswer}
 use Rattle.message.specs.declared.Message.{Message}
 use Rattle.firmware.specs.Bytes.{nowhere, placed, then}
 use Rattle.firmware.specs.Css
 use Rattle.firmware.specs.Cpd
 use Rattle.firmware.specs.Inside.{hucBlob, hucName, hucNumber, manifestName, manifestNumber, partNamed}
-use Rattle.firmware.specs.Version.{Reading, reading}
+use Rattle.firmware.specs.Version.{reading}
 use Rattle.firmware.specs.declared.bytes.Located.{Located}
 use Rattle.firmware.proofs.Count.{count-some, count-two, count-zero, two-count}
 use Rattle.firmware.proofs.Search.{all-each, all-fails, first-met, none-met}
@@ -26,7 +25,7 @@ use Rattle.refusals.specs.Order.{Row, row}
 use Rattle.refusals.specs.Table.{any, directoryRows, entryRows, imageRows, manifestRows, row-4, row-14-fields, row-20, row-20-index, row-21, row-22, seekTests}
 use Rattle.refusals.specs.Refusals.{LocationRefused, hucTests, manifestTests}
 use Rattle.refusals.proofs.Lowest.{first-behind, firstJudged, firstOf, rising}
-use Rattle.refusals.proofs.Rows.{below, either-fails, not-not}
+use Rattle.refusals.proofs.Rows.{below, either-fails}
 
 -- ---- messages
 

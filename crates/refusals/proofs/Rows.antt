@@ -3,7 +3,7 @@ use Prim.Native.Nat.{ℕ}
 use mathlib.Core.Path.{_≡_, refl, sym, ap, _∙_}
 use mathlib.Core.Bool.{Bool, true, false, not, _&&_, _||_, cond}
 use mathlib.Core.List.{List, [], _∷_}
-use mathlib.Core.Option.{Option, none, some}
+use mathlib.Core.Option.{none}
 use lib.ListN.{length, getD}
 use lib.Dec.{eqb, leb, ltb}
 use borrow.Author.Tests.{eq-eqb, eqb-true, leb-true, leb-false, le-ltb, lt-ltb, ltb-true, ltb-false, le-leb, lt-leb}
@@ -13,9 +13,9 @@ use Rattle.message.specs.Header.{isMessage, wellFormed}
 use Rattle.ring.specs.Ring.{head, tail}
 use Rattle.ring.specs.AtOnce.{lengthAt, messageAt, receiveNumber}
 use Rattle.ring.specs.Numbers.{firstNeeds, lookNeeds, need, receiveDecision, receiveLookNeeds, sendDecision, sendLookNeeds, takeDecision}
-use Rattle.channel.specs.State.{State, idle, header, second}
+use Rattle.channel.specs.State.{State, idle}
 use Rattle.channel.specs.Opening.{openNumber}
-use Rattle.channel.specs.Operations.{Op, sendLook, sendMove, sendPublish, receiveLook, receiveMove, receivePublish, receiveWhole}
+use Rattle.channel.specs.Operations.{sendLook, sendMove, sendPublish, receiveLook, receiveMove, receivePublish, receiveWhole}
 use Rattle.channel.specs.Send
 use Rattle.channel.specs.Receive
 use Rattle.refusals.specs.Order.{Row}

@@ -3,7 +3,6 @@ use Prim.Native.Nat.{ℕ, zero, suc}
 use mathlib.Core.Path.{_≡_, refl, _∙_}
 use mathlib.Core.Bool.{true, false}
 use mathlib.Core.List.{List}
-use lib.ListN.{length}
 use lib.Dec.{eqb·zero-suc}
 use borrow.Author.Tests.{ne-eqb}
 use Rattle.channel.specs.State.{State, idleAt, madeFor, idle, activeSend, activeReceive}
@@ -11,7 +10,7 @@ use Rattle.channel.specs.Opening.{openBy}
 use Rattle.channel.specs.Operations.{Op, sendLook, sendMove, sendPublish, sendWhole, receiveLook, receiveMove, receivePublish, receiveWhole, gives}
 use Rattle.firmware.specs.Css
 use Rattle.firmware.specs.Cpd
-use Rattle.firmware.specs.Inside.{hucNumber, manifestNumber}
+use Rattle.firmware.specs.Inside.{hucNumber}
 use Rattle.firmware.specs.Version.{cssReading, hucReading, manifestReading, reading}
 use Rattle.firmware.specs.declared.css.Component.the-variants.{Ucode}
 use Rattle.firmware.proofs.Nowhere.{entry-nowhere, huc-nowhere, image-nowhere, name-nowhere}
