@@ -73,8 +73,10 @@ image n = cssHeader ++ replicate (n - 128) 0xCC
 unfoldable pub entryBytes : List ℕ → ℕ → ℕ → List ℕ
 entryBytes name start long = name ++ replicate (12 - length name) 0 ++ littles (start ∷ long ∷ 0 ∷ [])
 
--- a directory with H 20 and n 2 and nothing after its entries; its second entry is `huc_fw`, whose part is at 68
+-- a directory with H 20 that counts n entries, and these bytes after its header
+unfoldable pub directoryOf : ℕ → List ℕ → List ℕ
+directoryOf n entries = (0x24 ∷ 0x43 ∷ 0x50 ∷ 0x44 ∷ []) ++ little n ++ (0 ∷ 0 ∷ 20 ∷ []) ++ replicate 9 0 ++ entries
+
+-- one with n 2 and nothing after its entries; its second entry is `huc_fw`, whose part is at 68
 unfoldable pub directory : ℕ → List ℕ
-directory long =
-    (0x24 ∷ 0x43 ∷ 0x50 ∷ 0x44 ∷ []) ++ little 2 ++ (0 ∷ 0 ∷ 20 ∷ []) ++ replicate 9 0
-    ++ entryBytes manifestName 68 0 ++ entryBytes hucName 68 long
+directory long = directoryOf 2 (entryBytes manifestName 68 0 ++ entryBytes hucName 68 long)

@@ -1,5 +1,6 @@
 -- The worked examples of document 01, 'Both sides of each line': one table, and the statement that the definitions give each of its rows.
--- Every line marked P is here, each row under the paper's words. A comment that starts with `Ours` marks rows that the paper does not have.
+-- Every line marked P is here, each row under the paper's words, and what a request of document 02 changes. A comment that starts with `Ours` marks rows that no
+-- paper has.
 use Prim.Native.Nat.{ℕ}
 use mathlib.Core.Bool.{Bool, true, false}
 use mathlib.Core.List.{List, [], _∷_, _++_, map}
@@ -18,11 +19,12 @@ use Rattle.channel.specs.Send
 use Rattle.channel.specs.Receive
 use Rattle.firmware.specs.Css
 use Rattle.firmware.specs.Cpd
-use Rattle.firmware.specs.Inside.{hucName}
+use Rattle.firmware.specs.Inside.{hucName, hucLocated, manifestName}
+use Rattle.firmware.specs.Version.{Reading, hucReading, manifestReading}
 use Rattle.firmware.specs.declared.css.Component.{Component}
 use Rattle.firmware.specs.declared.css.Component.the-variants.{Ucode, Rsa, Modulus, Exponent}
 use Rattle.examples.specs.Example.{Example, _is_, Each}
-use Rattle.examples.specs.Inputs.{message, countUp, dwords, twoDwords, descriptorWith, untouched, buffer, bufferOf, bufferWith, image, directory}
+use Rattle.examples.specs.Inputs.{message, countUp, dwords, twoDwords, descriptorWith, untouched, buffer, bufferOf, bufferWith, image, entryBytes, directoryOf, directory}
 
 -- ---- how a row says an answer
 
@@ -73,6 +75,17 @@ css b = (Css.answer b .code, Css.answer b .truncated, part Ucode b, part Rsa b, 
 -- the number of seeking `huc_fw` in a directory, and its part
 abbrev pub cpd : List ℕ → ℕ × Part
 cpd b = (Cpd.number b hucName, (Cpd.place b hucName .from, Cpd.place b hucName .to))
+
+-- entries of those two names, the manifest's part at byte 0
+abbrev pub huc : ℕ → ℕ → List ℕ
+huc start long = entryBytes hucName start long
+
+abbrev pub man : ℕ → List ℕ
+man long = entryBytes manifestName 0 long
+
+-- a version's reading that is refused
+abbrev pub noVersion : ℕ → Reading
+noVersion n = record { number = n; version = [] }
 
 -- ---- channels that several rows speak of
 
@@ -197,6 +210,22 @@ table =
     ∷ (cpd (directory 1) is (21, emptyPart))
     -- '.. of length 0: an empty part.'
     ∷ (cpd (directory 0) is (0, (68, 68)))
+    -- T-03: 'A supplier's CPD had two `huc_fw` entries': neighbours that differ, neighbours that are alike, the first and the last of three, and all three
+    ∷ (cpd (directoryOf 2 (huc 20 24 ++ huc 44 24)) is (22, emptyPart))
+    ∷ (cpd (directoryOf 2 (huc 20 24 ++ huc 20 24)) is (22, emptyPart))
+    ∷ (cpd (directoryOf 3 (huc 20 24 ++ man 0 ++ huc 68 24)) is (22, emptyPart))
+    ∷ (cpd (directoryOf 3 (huc 20 24 ++ huc 44 24 ++ huc 68 24)) is (22, emptyPart))
+    -- T-03: 'tested after 20 and before 21': two of another name, and two whose parts lie beyond the blob of 68 bytes; a byte less is still 19
+    ∷ (cpd (directoryOf 2 (man 0 ++ man 0)) is (20, emptyPart))
+    ∷ (cpd (directoryOf 2 (huc 68 1 ++ huc 68 1)) is (22, emptyPart))
+    ∷ (cpd (take 67 (directoryOf 2 (huc 20 24 ++ huc 44 24))) is (19, emptyPart))
+    -- Ours: no two of one name: one that goes on behind the name, and one behind the n entries
+    ∷ (cpd (directoryOf 2 (huc 20 24 ++ entryBytes (hucName ++ (0x32 ∷ [])) 44 24)) is (0, (20, 44)))
+    ∷ (cpd (directoryOf 1 (huc 20 24 ++ huc 44 24)) is (0, (20, 44)))
+    -- T-03: 'The manifest and CSS readings inside a directory pass 22 on and promise it.'
+    ∷ (manifestReading (directoryOf 2 (man 44 ++ man 44)) is noVersion 22)
+    ∷ (hucReading (directoryOf 2 (huc 20 24 ++ huc 44 24)) is noVersion 22)
+    ∷ (map (λ which. hucLocated which (directoryOf 2 (huc 20 24 ++ huc 44 24)) .code) (Ucode ∷ Rsa ∷ Modulus ∷ Exponent ∷ []) is 22 ∷ 22 ∷ 22 ∷ 22 ∷ [])
     ∷ []
 
 -- THE STATEMENT: the definitions give each

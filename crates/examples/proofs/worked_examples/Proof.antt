@@ -17,6 +17,8 @@ use Rattle.channel.specs.Receive
 use Rattle.firmware.specs.Bytes.{dwordAt}
 use Rattle.firmware.specs.Css
 use Rattle.firmware.specs.Cpd
+use Rattle.firmware.specs.Inside.{hucNumber, manifestNumber}
+use Rattle.firmware.specs.Version.{hucReading, manifestReading, reading}
 use Rattle.examples.specs.Example.{Each}
 use Rattle.examples.specs.Inputs
 use Rattle.examples.specs.Table.{Examples, table, freshChannel, once, twice, thrice, full, stores, around}
@@ -32,14 +34,15 @@ examples : Examples
 unfolding
     Each table freshChannel once twice thrice full stores around
     Inputs.countUp Inputs.dwords Inputs.descriptorWith Inputs.buffer Inputs.bufferOf Inputs.bufferWith
-    Inputs.littles Inputs.cssHeader Inputs.image Inputs.entryBytes Inputs.directory
+    Inputs.littles Inputs.cssHeader Inputs.image Inputs.entryBytes Inputs.directoryOf Inputs.directory
     fit dword typeOf carried bodyFields bodiesFrom bodies ofType bodyOf someBody known wellFormed isMessage originNumber originOf
     decoded unpack Option·elim headerFields hxgFields pack refusing
     allowed used free zeros allZero idle activeSend need firstNeeds lookNeeds sendLookNeeds receiveLookNeeds marked openNumber openBy
     sendDecision Send.lookBy Send.moveNumber Send.moveBy Send.publishNumber Send.publishBy moves Send.afterLook receiveDecision Receive.lookBy Receive.wholeNumber Receive.wholeBy
     Receive.afterLook Receive.moveNumber Receive.moveBy Receive.publishNumberOf Receive.publishBy activeReceive
     dwordAt Css.sizes Css.agree Css.spanOf Css.number Css.truncated Css.shown Css.place
-    Cpd.all Cpd.firstFrom Cpd.isName Cpd.hasMarker Cpd.directoryNumber Cpd.firstEntry Cpd.entryNumber Cpd.entryPlace Cpd.number Cpd.place
+    Cpd.all Cpd.firstFrom Cpd.countFrom Cpd.isName Cpd.hasMarker Cpd.directoryNumber Cpd.firstEntry Cpd.entriesNamed Cpd.number Cpd.place
+    reading manifestNumber manifestReading hucNumber hucReading
 examples =
     refl & refl & refl & refl & refl & refl & refl
     & refl & refl & refl & refl & refl & refl
@@ -51,6 +54,8 @@ examples =
     & refl & refl & refl & refl
     & refl & refl & refl & refl & refl & refl
     & refl & refl & refl & refl
+    & refl & refl & refl & refl & refl & refl & refl & refl & refl
+    & refl & refl & refl
     & tt
 
 returns : tie.Need-returns
