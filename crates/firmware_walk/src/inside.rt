@@ -56,6 +56,9 @@ pub(crate) fn manifests() {
     let mut other = directory(44, 160, 35);
     put_entry(&mut other, 20, b"HUCP.met", 68, 44);
     manifest_of(b"HUCP.met instead", front(&other, 300));
+    put_entry(&mut other, 20, b"HUCP.man", 68, 44);
+    put_entry(&mut other, 44, b"HUCP.man", 112, 160);
+    manifest_of(b"HUCP.man twice", front(&other, 300));
 }
 
 // A component's name and place in the outer blob.
@@ -110,4 +113,7 @@ pub(crate) fn refused_images() {
     put_entry(&mut missing, 44, b"huc_fwx", 112, 160);
     image_in(b"huc_fwx instead", front(&missing, 300));
     image_in(b"A blob of 67 bytes", front(&missing, 67));
+    let mut twice = directory(44, 160, 35);
+    put_entry(&mut twice, 20, b"huc_fw", 112, 160);
+    image_in(b"huc_fw twice", front(&twice, 300));
 }

@@ -1,9 +1,10 @@
-// Names in a directory: whole names agree and prefixes do not, the first of two wins, and names that may not be sought.
+// Names in a directory: whole names agree and prefixes do not, a name that two entries have is refused, and names that may not be sought.
 use crate::directories::seek;
 use crate::directories::sought;
 use crate::directories::two_entries;
 use crate::laying::Blob;
 use crate::laying::front;
+use crate::laying::put_directory;
 use crate::laying::put_entry;
 use crate::wording::number;
 use crate::wording::text;
@@ -31,7 +32,8 @@ fn longer_first() {
     seek(&blob, 100, b"huc_fw");
 }
 
-// Two entries of one name: the first wins, even where its part lies beyond the blob.
+// Two entries of one name are refused, also where they are alike and before a part that lies beyond the blob. An entry behind those that
+// the directory counts is none, and another name is still found.
 fn same_twice() {
     let mut blob = two_entries(b"huc_fw", 80, 4);
     put_entry(&mut blob, 20, b"huc_fw", 70, 5);
@@ -40,6 +42,24 @@ fn same_twice() {
     put_entry(&mut blob, 20, b"huc_fw", 99, 2);
     text(b"\"huc_fw\" at 99 to 101 and again at 80 to 84: ");
     seek(&blob, 100, b"huc_fw");
+    put_entry(&mut blob, 20, b"huc_fw", 80, 4);
+    text(b"\"huc_fw\" at 80 to 84, the same entry twice: ");
+    seek(&blob, 100, b"huc_fw");
+    put_directory(&mut blob, 1, 20);
+    text(b"The same with entry count 1: ");
+    seek(&blob, 100, b"huc_fw");
+    first_and_last();
+}
+
+// Entry 0 and entry 2 have one name, entry 1 another.
+fn first_and_last() {
+    let mut blob = two_entries(b"other", 94, 3);
+    put_directory(&mut blob, 3, 20);
+    put_entry(&mut blob, 20, b"huc_fw", 92, 2);
+    put_entry(&mut blob, 68, b"huc_fw", 97, 3);
+    text(b"\"huc_fw\" at 92 to 94, \"other\" at 94 to 97, \"huc_fw\" at 97 to 100: ");
+    seek(&blob, 100, b"huc_fw");
+    seek(&blob, 100, b"other");
 }
 
 // Seeks a name that is not to be printed.

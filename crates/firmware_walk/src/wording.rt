@@ -1,4 +1,4 @@
-// The words and numbers that the lines are made of, and document 01's rule behind each number that says no.
+// The words and numbers that the lines are made of, and the rule of documents 01 and 02 behind each number that says no.
 use firmware::ImageAnswer;
 use firmware::Located;
 use firmware::ManifestVersion;
@@ -46,6 +46,7 @@ fn rule(code: u32) {
         19 => text(b" (the entries lie beyond the blob)"),
         20 => text(b" (no entry of that name)"),
         21 => text(b" (the entry's part lies beyond the blob)"),
+        22 => text(b" (more than one entry has that name)"),
         _ => text(b" (no rule of firmware has this number)"),
     }
 }

@@ -67,7 +67,7 @@ fn every_entry(blob: &[u8], count: usize) {
 }
 
 // An entry's name, and its part or why it has none. Entries are taken by their index, so that a list takes one pass: each line is that entry's own,
-// also where a seek would not come to it, for an earlier entry has its name.
+// also where a seek of its name is refused, for another entry has it too.
 fn entry(blob: &[u8], i: usize) {
     number(b"  entry ", i as u64);
     text(b", \"");

@@ -2,6 +2,7 @@
 use crate::image::refusal;
 use crate::image::surplus;
 use crate::image::truncation;
+use crate::sharing::shared;
 use crate::wording::number;
 use crate::wording::part;
 use crate::wording::shortage;
@@ -41,15 +42,16 @@ fn manifest_refusal(code: u32, blob: &[u8]) {
             firmware::cpd_part(blob, b"HUCP.man").len(),
         );
     } else {
-        seek_refusal(code);
+        seek_refusal(code, blob, b"HUCP.man");
     }
 }
 
 // Why seeking a name in a good directory is refused.
-fn seek_refusal(code: u32) {
+fn seek_refusal(code: u32, blob: &[u8], name: &[u8]) {
     match code {
         20 => text(b"20: no entry of that name\n"),
         21 => text(b"21: its part lies beyond the file\n"),
+        22 => shared(blob, name),
         _ => {
             number(b"refused by ", code as u64);
             text(b"\n");
@@ -86,6 +88,6 @@ pub(crate) fn image(blob: &[u8]) {
         text(b"refused\n");
         refusal(code, bytes, b"huc_fw");
     } else {
-        seek_refusal(code);
+        seek_refusal(code, blob, b"huc_fw");
     }
 }

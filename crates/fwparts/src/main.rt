@@ -5,6 +5,7 @@ mod fields;
 mod image;
 mod inside;
 mod names;
+mod sharing;
 mod wording;
 
 use wording::complaint;
@@ -62,13 +63,10 @@ fn report_on(fd: i32, path: &[u8]) {
     read_and_report(fd, path, &mut bytes);
 }
 
-fn main() {
-    if os::arg_count() != 2 {
-        complaint(b"usage: fwparts FILE\n");
-        return;
-    }
+// The file that argument i names.
+fn file(i: usize) {
     let mut path = io::buffer();
-    let n = os::arg(1, &mut path);
+    let n = os::arg(i, &mut path);
     if os::errno() != 0 {
         os::fail(b"fwparts: the file's name");
         return;
@@ -84,4 +82,15 @@ fn main() {
     }
     report_on(fd, &path[..n]);
     libc::close(fd);
+}
+
+fn main() {
+    let count = os::arg_count();
+    if count < 2 {
+        complaint(b"usage: fwparts FILE..\n");
+        return;
+    }
+    for i in 1..count {
+        file(i);
+    }
 }
