@@ -1,5 +1,6 @@
-// Firmware files: an image judged and handed out in parts, files put in its place, and a directory with an image in it.
+// Firmware files: an image judged and handed out in parts, files put in its place, a directory with an image in it, and one that has the image's name twice.
 use crate::laying::directory;
+use crate::laying::doubled;
 use crate::laying::front;
 use crate::laying::image;
 use crate::wording::number;
@@ -45,6 +46,7 @@ fn refusal(code: u32) {
     match code {
         16 => text(b": h is not 32 + k + m + e = 35"),
         17 => text(b": 128 + 4(s - h) + 4k = 152 bytes must be there"),
+        22 => text(b": which file of that name is meant, nobody can say"),
         _ => (),
     }
 }
@@ -114,11 +116,30 @@ fn sought(blob: &[u8], name: &[u8]) {
         part(b": accepted,", l);
     } else {
         number(b": REFUSED, rule ", code as usize);
-        told(
-            code == 20,
-            b": no entry has that name; a name's beginning is no match",
-            b"",
-        );
+        not_found(code, blob, name);
+    }
+}
+
+// Why a name is not found.
+fn not_found(code: u32, blob: &[u8], name: &[u8]) {
+    match code {
+        20 => text(b": no entry has that name; a name's beginning is no match"),
+        22 => {
+            text(b": more than one entry has that name");
+            sharer(b": entry ", blob, 0, name);
+            sharer(b" and entry ", blob, 1, name);
+            text(
+                b"\n    Ask the supplier which of them is meant, and for a file in which only that one has it",
+            );
+        }
+        _ => (),
+    }
+}
+
+// Entry i, where it has that name.
+fn sharer(before: &[u8], blob: &[u8], i: usize, name: &[u8]) {
+    if firmware::cpd_has_name(blob, i, name) {
+        number(before, i);
     }
 }
 
@@ -177,4 +198,15 @@ pub(crate) fn directories() {
     image_inside(blob);
     sought(blob, b"huc");
     text(b"\n");
+    shared_name();
+}
+
+// Two entries of one name: neither is loaded.
+fn shared_name() {
+    let file = doubled();
+    let blob = front(&file, 272);
+    text(b"  Swapped for a file in which entry 0 is named huc_fw too\n");
+    sought(blob, b"huc_fw");
+    text(b"\n");
+    image_inside(blob);
 }

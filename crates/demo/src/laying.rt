@@ -66,3 +66,10 @@ pub(crate) fn directory() -> Blob {
     put_header(&mut blob[112..], 35);
     blob
 }
+
+// The same with huc_fw as the name of both entries.
+pub(crate) fn doubled() -> Blob {
+    let mut blob = directory();
+    put_bytes_at(&mut blob, 20, b"huc_fw\0\0");
+    blob
+}
