@@ -4,8 +4,8 @@
 use model::channel::{Answer, State, HEAD, STATUS, TAIL};
 use model::generate::{
     case_for, cpd_case, css_blob, every_misplaced_name, every_name_bit, every_near_name,
-    every_repeat, every_repeated_length, every_uncounted_name, fields, message, well_formed_of,
-    CpdCase, Rng,
+    every_repeat, every_repeat_cut, every_repeated_length, every_uncounted_name, fields, message,
+    well_formed_of, CpdCase, Rng,
 };
 use model::message::{is_message, pack, unpack, TYPES};
 use model::run::{Case, Op};
@@ -207,6 +207,7 @@ fn answers_of(sweep: fn(&mut Rng) -> Vec<CpdCase>, seed: u64, seek: &[u32]) {
 fn sweeps_of_names() {
     for seed in 0..20 {
         answers_of(every_repeat, seed, &[22]);
+        answers_of(every_repeat_cut, seed, &[15, 19, 22]);
         answers_of(every_repeated_length, seed, &[22]);
         answers_of(every_near_name, seed, &[0, 20]);
         answers_of(every_uncounted_name, seed, &[0]);

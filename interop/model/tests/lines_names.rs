@@ -137,6 +137,9 @@ fn after_20_and_before_21() {
         assert_eq!(cpd::seek(&blob, b"par"), (20, 0, 0));
         assert_eq!(cpd::seek(&blob[..68], b"part"), REFUSED);
         assert_eq!(cpd::seek(&blob[..67], b"part"), (19, 0, 0));
+        let third = counted(3, &twice);
+        assert_eq!(cpd::seek(&third[..91], b"part"), (19, 0, 0), "both there, but not the third");
+        assert_eq!(cpd::seek(&third[..92], b"part"), REFUSED);
         assert_eq!(cpd::seek(&blob[..19], b"part"), (15, 0, 0));
         assert_eq!(cpd::seek(&blob, b"part\0"), (14, 0, 0));
         let mut wrong = blob;

@@ -96,6 +96,18 @@ pub fn every_repeated_length(rng: &mut Rng) -> Vec<CpdCase> {
     (1..=12).map(one).collect()
 }
 
+/// A directory whose first two entries of three have the name, cut at every byte:
+/// two of the name are there before all entries are.
+pub fn every_repeat_cut(rng: &mut Rng) -> Vec<CpdCase> {
+    let kind = rng.below(3) as usize;
+    let (name, header) = (sought(rng, kind), header(rng));
+    let names = [padded(&name), padded(&name), other_than(rng, &padded(&name))];
+    let parts = names.map(|name| (name, rng.bytes(3)));
+    let blob = directory(rng, header, &laid(header, parts.into()));
+    let cut = |end| CpdCase { blob: blob[..end].to_vec(), name: name.clone() };
+    (0..=blob.len()).map(cut).collect()
+}
+
 /// Names that are not this one of 2 to 10 bytes: one that it begins with, one
 /// that begins with it, and its bytes with another than zero behind them.
 fn near(rng: &mut Rng, name: &[u8]) -> [[u8; 12]; 3] {
