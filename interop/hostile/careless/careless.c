@@ -182,7 +182,8 @@ static int has_name(const uint8_t *entry, const uint8_t *name, size_t len)
 	return 1;
 }
 
-/* 14 to 19; H and n are read once, so that no entry outside the blob is read. */
+/* 14, 18 and 19, all that the scenes meet; H and n are read once, so that no entry
+ * outside the blob is read. */
 static uint32_t may_walk(const uint8_t *blob, size_t len, const uint8_t *name, size_t name_len,
 			 size_t *at, size_t *count)
 {
