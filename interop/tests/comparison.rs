@@ -83,4 +83,6 @@ fn numbers_have_places() {
     assert_eq!((place(23), place(99), place(102)), (None, None, None));
     let empty = Tally::default().missing();
     assert!(empty.iter().any(|line| line == "guc_receive never answered 9"));
+    let twice = empty.iter().filter(|line| line.ends_with(" never answered 22"));
+    assert_eq!(twice.count(), 7, "each function that seeks a name, and no other");
 }

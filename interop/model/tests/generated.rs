@@ -137,9 +137,10 @@ fn every_number_of_css() {
 }
 
 /// How many entries have this name, by cutting the blob into entries; asked only
-/// where 14 to 19 have passed.
+/// where 14 to 19 have passed, so all entries must be there.
 fn named(blob: &[u8], name: &[u8]) -> usize {
     let count = u32::from_le_bytes([blob[4], blob[5], blob[6], blob[7]]) as usize;
+    assert!(blob.len() >= blob[10] as usize + 24 * count);
     let has = |entry: &&[u8]| {
         entry[..name.len()] == *name && entry[name.len()..12].iter().all(|&byte| byte == 0)
     };
