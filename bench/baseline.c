@@ -153,7 +153,7 @@ uint32_t F(css_copy)(const uint8_t *blob, size_t len, uint8_t *dst, size_t room,
     return 0;
 }
 
-// A directory's first entry of that name: one walk, twelve bytes compared at once.
+// A directory's only entry of that name: one walk over all entries, twelve bytes compared at once.
 uint32_t F(cpd_find)(const uint8_t *blob, size_t len, const uint8_t *name, size_t name_len, size_t *start, size_t *size)
 {
     uint8_t key[12] = {0};
@@ -161,15 +161,17 @@ uint32_t F(cpd_find)(const uint8_t *blob, size_t len, const uint8_t *name, size_
     memcpy(key, name, name_len);
     if (len < 20) return 15;
     if (memcmp(blob, "$CPD", 4) || blob[10] < 20) return 18;
-    uint64_t entries = dword(blob + 4), at = blob[10];
+    uint64_t entries = dword(blob + 4), at = blob[10], found = 0;
     if (at + 24 * entries > len) return 19;
     for (; entries > 0; entries--, at += 24) {
         if (memcmp(blob + at, key, 12)) continue;
-        uint64_t off = dword(blob + at + 12) & 0x1ffffff, n = dword(blob + at + 16);
-        if (off + n > len) return 21;
-        *start = off;
-        *size = n;
-        return 0;
+        if (found) return 22;
+        found = at; // never 0: the header comes first
     }
-    return 20;
+    if (!found) return 20;
+    uint64_t off = dword(blob + found + 12) & 0x1ffffff, n = dword(blob + found + 16);
+    if (off + n > len) return 21;
+    *start = off;
+    *size = n;
+    return 0;
 }

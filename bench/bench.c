@@ -14,7 +14,7 @@ static uint32_t msgs[8][256] __attribute__((aligned(64)));
 static uint32_t out[256] __attribute__((aligned(64)));
 static uint32_t sw[260] __attribute__((aligned(64))), rw[260] __attribute__((aligned(64)));
 static uint8_t image[IMAGE] __attribute__((aligned(4096))), room[IMAGE] __attribute__((aligned(4096)));
-static uint8_t directory[20 + 24 * 16 + 64];
+static uint8_t few[20 + 24 * 16 + 64], many[20 + 24 * 4096 + 64]; // directories: entries and one part
 static struct ring tx, rx;
 static size_t N, L;
 
@@ -87,17 +87,21 @@ static uint32_t guc_copy(void)
     struct guc_copied c = guc_css_copy(image, IMAGE, 0, room, IMAGE);
     return image_parts(c.code, 0, 128, c.len);
 }
-// The entry sought is the last of sixteen.
-static uint32_t entry_part(uint32_t code, size_t start, size_t len) { return code | (start ^ 404) | (len ^ 64); }
-static const uint8_t huc_fw[] = "huc_fw"; // six bytes are the name
-static uint32_t guc_find(void)
+// The entry sought is the last one, alone of its name; its part is what follows the entries.
+static uint32_t entry_part(size_t bytes, uint32_t code, size_t start, size_t len)
 {
-    struct guc_part p = guc_cpd_part(directory, sizeof directory, huc_fw, 6);
-    return entry_part(p.code, p.start, p.len);
+    return code | (start ^ (bytes - 64)) | (len ^ 64);
+}
+static const uint8_t huc_fw[] = "huc_fw"; // six bytes are the name
+static uint32_t guc_find(const uint8_t *d, size_t bytes)
+{
+    struct guc_part p = guc_cpd_part(d, bytes, huc_fw, 6);
+    return entry_part(bytes, p.code, p.start, p.len);
 }
 #define READER(s) \
-    static uint32_t find_##s(void) { size_t at = 0, n = 0; uint32_t c = cpd_find_##s(directory, sizeof directory, huc_fw, 6, &at, &n); \
-        return entry_part(c, at, n); } \
+    static uint32_t find_##s(const uint8_t *d, size_t bytes) { \
+        size_t at = 0, n = 0; uint32_t c = cpd_find_##s(d, bytes, huc_fw, 6, &at, &n); \
+        return entry_part(bytes, c, at, n); } \
     static uint32_t read_##s(void) { struct css_parts p; uint32_t c = css_read_##s(image, IMAGE, &p); \
         return image_parts(c, p.truncated, p.ucode_start, p.ucode_len); } \
     static uint32_t copy_##s(void) { size_t done; uint32_t c = css_copy_##s(image, IMAGE, room, IMAGE, &done); \
@@ -106,7 +110,8 @@ READER(inl)
 READER(lib)
 EACH(fw_guc_two, guc_two()) EACH(fw_guc_one, guc_one()) EACH(fw_read_inl, read_inl()) EACH(fw_read_lib, read_lib())
 EACH(fw_guc_copy, guc_copy()) EACH(fw_copy_inl, copy_inl()) EACH(fw_copy_lib, copy_lib())
-EACH(fw_guc_find, guc_find()) EACH(fw_find_inl, find_inl()) EACH(fw_find_lib, find_lib())
+#define FIND(d) EACH(d##_guc, guc_find(d, sizeof d)) EACH(d##_inl, find_inl(d, sizeof d)) EACH(d##_lib, find_lib(d, sizeof d))
+FIND(few) FIND(many)
 
 typedef uint32_t (*block)(size_t);
 #define V(v) {#v, v##_send_block, v##_receive_block, v##_turn_block, v##_check_block}
@@ -115,7 +120,8 @@ static const struct variant { const char *name; block send, receive, turn, check
 static const struct firmware { const char *what, *name; block run; size_t k; } firmware[] = {
     {"judge", "guc", fw_guc_two, 4000}, {"judge", "runs_inl", fw_read_inl, 4000}, {"judge", "runs_lib", fw_read_lib, 4000},
     {"locate", "guc", fw_guc_one, 4000}, {"locate", "runs_inl", fw_read_inl, 4000}, {"locate", "runs_lib", fw_read_lib, 4000},
-    {"find", "guc", fw_guc_find, 1000}, {"find", "runs_inl", fw_find_inl, 1000}, {"find", "runs_lib", fw_find_lib, 1000},
+    {"few", "guc", few_guc, 1000}, {"few", "runs_inl", few_inl, 1000}, {"few", "runs_lib", few_lib, 1000},
+    {"many", "guc", many_guc, 50}, {"many", "runs_inl", many_inl, 50}, {"many", "runs_lib", many_lib, 50},
     {"copy", "guc", fw_guc_copy, 2}, {"copy", "runs_inl", fw_copy_inl, 2}, {"copy", "runs_lib", fw_copy_lib, 2}};
 enum { VARIANTS = sizeof variants / sizeof *variants, FIRMWARE = sizeof firmware / sizeof *firmware };
 
@@ -144,18 +150,24 @@ static void full(void)
     desc[0] = rx.own;
     desc[1] = (rx.own + N - L) % N;
 }
+static void put(uint8_t *at, uint32_t value) { for (int i = 0; i < 4; i++) at[i] = value >> 8 * i; }
 static void fresh_image(void)
 {
     for (size_t i = 0; i < IMAGE; i++) image[i] = i * 7 + (i >> 8);
     uint32_t words[] = {161, IMAGE / 4, 64, 64, 1}, at[] = {4, 24, 28, 32, 36};
-    for (int j = 0; j < 5; j++) for (int i = 0; i < 4; i++) image[at[j] + i] = words[j] >> 8 * i;
-    memcpy(directory, "$CPD\x10", 5);
-    directory[10] = 20;
-    for (int j = 0; j < 16; j++) {
-        uint8_t *e = directory + 20 + 24 * j;
-        memcpy(e, "huc_xx", 6);
-        memcpy(e + 12, (uint8_t[]){404 & 255, 404 >> 8, 0, 0, 64}, 5);
-        if (j == 15) memcpy(e, huc_fw, 6);
+    for (int j = 0; j < 5; j++) put(image + at[j], words[j]);
+}
+static void fresh_directory(uint8_t *d, size_t bytes)
+{
+    uint32_t n = (bytes - 20 - 64) / 24;
+    memcpy(d, "$CPD", 4);
+    put(d + 4, n);
+    d[10] = 20;
+    for (uint32_t j = 0; j < n; j++) {
+        uint8_t *e = d + 20 + 24 * j;
+        memcpy(e, j == n - 1 ? huc_fw : (const uint8_t *)"huc_xx", 6);
+        put(e + 12, bytes - 64);
+        put(e + 16, 64);
     }
 }
 
@@ -256,6 +268,8 @@ static void count_all(void)
 int main(int argc, char **argv)
 {
     fresh_image();
+    fresh_directory(few, sizeof few);
+    fresh_directory(many, sizeof many);
     if (argc == 2 && !strcmp(argv[1], "time")) time_all();
     else if (argc == 2 && !strcmp(argv[1], "count")) count_all();
     else { fputs("usage: bench time | count\n", stderr); return 2; }

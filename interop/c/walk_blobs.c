@@ -135,9 +135,43 @@ static void cpd(void)
 	printf("directory refused: 14, 15, 19, 20, 21, 18\n");
 }
 
+/* The manifest's entry gets the image's name, or the image's the manifest's. */
+static void cpd_twice(void)
+{
+	uint8_t blob[DIRECTORY], dst[44];
+	struct guc_part part;
+	struct guc_copied copied;
+
+	make_directory(blob);
+	memset(dst, 0xEE, sizeof(dst));
+	memcpy(blob + 20, blob + 44, 12);
+	part = guc_cpd_part(blob, DIRECTORY, (const uint8_t *)"huc_fw", 6);
+	CHECK(part.code == GUC_DUPLICATE_ENTRY && part.start == 0 && part.len == 0);
+	copied = guc_cpd_copy(blob, DIRECTORY, (const uint8_t *)"huc_fw", 6, dst, 44);
+	CHECK(copied.code == GUC_DUPLICATE_ENTRY && copied.len == 0 && dst[0] == 0xEE);
+	part = guc_huc_part(blob, DIRECTORY, GUC_PART_RSA);
+	CHECK(part.code == GUC_DUPLICATE_ENTRY && part.start == 0 && part.len == 0);
+	CHECK(guc_huc_copy(blob, DIRECTORY, 0, dst, 44).code == GUC_DUPLICATE_ENTRY);
+	CHECK(guc_huc_answer(blob, DIRECTORY).code == GUC_DUPLICATE_ENTRY);
+	CHECK(guc_huc_version(blob, DIRECTORY).code == GUC_DUPLICATE_ENTRY);
+	CHECK(guc_manifest_version(blob, DIRECTORY).code == GUC_NO_ENTRY);
+	CHECK(seek(blob, DIRECTORY - 1, "huc_fw") == GUC_DUPLICATE_ENTRY); /* not 21 */
+	CHECK(seek(blob, 67, "huc_fw") == GUC_CPD_ENTRIES);
+	put(blob, 4, 1);
+	CHECK(seek(blob, DIRECTORY, "huc_fw") == GUC_OK); /* the other isn't counted */
+	make_directory(blob);
+	memcpy(blob + 44, blob + 20, 12);
+	CHECK(guc_manifest_version(blob, DIRECTORY).code == GUC_DUPLICATE_ENTRY);
+	blob[55] = 1; /* in the padding: another name */
+	CHECK(guc_manifest_version(blob, DIRECTORY).code == GUC_OK);
+	printf("two entries of one name: 22, also cut to %u; 67: 19; one counted: 0\n",
+	       DIRECTORY - 1);
+}
+
 void walk_blobs(void)
 {
 	css();
 	css_refused();
 	cpd();
+	cpd_twice();
 }

@@ -81,6 +81,8 @@ static void ring(void)
 	expect(receive_now(), GUC_OK, "ring put back");
 }
 
+#define LASTX (20 + 24 * 4 + 4) /* the x in the name of the last entry */
+
 static uint32_t part_now(void)
 {
 	return guc_cpd_part(asked.blob, LENGTH, asked.name, asked.name_len).code;
@@ -97,6 +99,9 @@ static void blob(void)
 	asked.name[0] = 0;
 	expect(part_now(), GUC_BAD_FIELD, "name rewritten again");
 	asked.name[0] = 'l';
+	asked.blob[LASTX] = '.';
+	expect(part_now(), GUC_DUPLICATE_ENTRY, "second entry rewritten");
+	asked.blob[LASTX] = 'x';
 	expect(part_now(), GUC_OK, "directory put back");
 	expect(guc_huc_part(asked.blob, LENGTH, 1).code, GUC_OK, "image");
 	asked.blob[200 + 4] ^= 1;

@@ -95,10 +95,46 @@ void lay_walk_rewritten(unsigned v)
 		rewritten(asked.blob, 4, 0x44504324u, 0x44504325u);
 		rewritten(asked.blob + 4, 4, 5, 41);
 	} else {
-		rewritten(asked.blob + ENTRY(3) + 4, 4, 0x656E6F2Eu, 0x656E6F78u); /* .one xone */
+		/* .one xone: of either entry, of none, which is 20, or of both, which is 22 */
+		rewritten(asked.blob + ENTRY(3) + 4, 4, 0x656E6F2Eu, 0x656E6F78u);
 		rewritten(asked.blob + ENTRY(4) + 4, 4, 0x656E6F78u, 0x656E6F2Eu);
 	}
 	listen_still();
+}
+
+/*
+ * The first entry (or the last) has the sought one's name or another, the last is
+ * counted or not, and the sought one's part is in the blob or ends a byte behind
+ * it: 0, 21 or 22, and never the other entry's part, which no still memory gives.
+ */
+static void rewrite_second(unsigned sought, unsigned v, uint32_t offset, uint32_t beyond)
+{
+	uint8_t *entry = asked.blob + ENTRY(sought), *other = asked.blob + ENTRY(v ? 4 : 0);
+
+	memcpy(other, entry, 12);
+	rewritten(other, 1, 'X', *entry);
+	rewritten(asked.blob + 4, 4, 5, 4);
+	rewritten(entry + OFFSET, 4, offset, beyond);
+	listen_still();
+}
+
+void lay_second_rewritten(unsigned v)
+{
+	lay_directory();
+	rewrite_second(3, v, 600, 601);
+}
+
+void lay_inner_second_rewritten(unsigned v)
+{
+	lay_directory();
+	asked.which = v;
+	rewrite_second(1, v, 200, 597);
+}
+
+void lay_manifest_second_rewritten(unsigned v)
+{
+	lay_directory();
+	rewrite_second(2, v, 160, 957);
 }
 
 /* The sought name: of one entry or another, or with a zero, which 14 refuses. */

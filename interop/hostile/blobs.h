@@ -25,6 +25,9 @@ void lay_directory(void);
 /* Each lays it anew and names the words that are rewritten. */
 void lay_entry_rewritten(unsigned v);
 void lay_walk_rewritten(unsigned v);
+void lay_second_rewritten(unsigned v);
+void lay_inner_second_rewritten(unsigned v);
+void lay_manifest_second_rewritten(unsigned v);
 void lay_name_rewritten(unsigned v);
 void lay_sizes_rewritten(unsigned v);
 void lay_inner_rewritten(unsigned v);

@@ -1,105 +1,14 @@
 /*
  * The firmware calls, accepted and refused by each number.
  */
-#include "loads.h"
+#include "blobs.h"
 
 #include <string.h>
 
-#define IMAGE 180u              /* h 37, s 45: 32 bytes of uCode, 8, 8 and 4 */
-#define AT 140u                 /* of the image in the directory */
-#define DIRECTORY (AT + IMAGE)  /* three entries: other, HUCP.man, huc_fw */
-#define MANIFEST 96u
-#define ENTRY(index) (20 + 24 * (index))
-
-static uint8_t blob[DIRECTORY], name[12], dst[64];
-static size_t len;
-static uint32_t which;
+static uint8_t name[12], dst[64];
+static unsigned also; /* for 22: entries beside the sought one that have its name, a bit for each */
 
 static const char *const components[4] = { "ucode", "rsa", "modulus", "exponent" };
-
-static void put(size_t at, uint32_t value)
-{
-	memcpy(blob + at, &value, 4);
-}
-
-static void lay_image(size_t at)
-{
-	put(at + 4, 37);
-	put(at + 24, 45);
-	put(at + 28, 2);
-	put(at + 32, 2);
-	put(at + 36, 1);
-	put(at + 64, 0x00460703u);
-}
-
-static void lay_entry(unsigned index, const char *called, uint32_t offset, uint32_t bytes)
-{
-	memcpy(blob + ENTRY(index), called, strlen(called));
-	put(ENTRY(index) + 12, offset);
-	put(ENTRY(index) + 16, bytes);
-}
-
-static void lay_directory(void)
-{
-	memset(blob, 0, sizeof(blob));
-	memset(name, 0, sizeof(name));
-	memcpy(blob, "$CPD", 4);
-	put(4, 3);
-	blob[10] = 20;
-	lay_entry(0, "HUCP.mat", 100, 8);
-	lay_entry(1, "HUCP.man", MANIFEST, 44);
-	lay_entry(2, "huc_fw", AT, IMAGE);
-	lay_image(AT);
-	len = DIRECTORY;
-}
-
-/* A CSS image of bytes at at: fields, the component asked for, everything else. */
-static void lent_image(size_t at, size_t bytes)
-{
-	static const size_t start[5] = { 128, 160, 168, 176, 180 };
-	static const char *const field[7] = { "h", "s", "k", "m", "e", "version", 0 };
-	static const size_t place[7] = { 4, 24, 28, 32, 36, 64, 128 };
-	size_t k, from = 0;
-
-	if (bytes < 128) {
-		lent("image.else", blob + at, bytes);
-		return;
-	}
-	for (k = 0; k < 7; k++) {
-		lent("image.else", blob + at + from, place[k] - from);
-		from = place[k] + 4;
-		if (field[k])
-			lent(field[k], blob + at + place[k], 4);
-	}
-	for (k = 0; k < 4 && start[k + 1] <= bytes; k++)
-		lent(which == k ? "asked" : components[k], blob + at + start[k],
-		     start[k + 1] - start[k]);
-}
-
-/* The directory's header and entries; found is the index of the one sought, 3 if none. */
-static void lent_directory(unsigned found)
-{
-	unsigned k;
-
-	if (len < 20) {
-		lent("directory.else", blob, len);
-		return;
-	}
-	lent("marker", blob, 4);
-	lent("count", blob + 4, 4);
-	lent("directory.else", blob + 8, 2);
-	lent("H", blob + 10, 1);
-	lent("directory.else", blob + 11, 9);
-	if (len < ENTRY(3))
-		lent("directory.else", blob + 20, len - 20);
-	for (k = 0; k < 3 && len >= ENTRY(3); k++) {
-		lent(k == found ? "found.name" : k < found ? "passed.name" : "later.name",
-		     blob + ENTRY(k), 12);
-		lent(k == found ? "found.offset" : "other.offset", blob + ENTRY(k) + 12, 4);
-		lent(k == found ? "found.length" : "other.length", blob + ENTRY(k) + 16, 4);
-		lent("directory.else", blob + ENTRY(k) + 20, 4);
-	}
-}
 
 /* What is asked of a blob; every call below is one of these. */
 enum ask { ANSWER, PART, COPY, VERSION };
@@ -158,12 +67,13 @@ static void huc(enum ask a, uint32_t answer, const char *note)
 	uint32_t code;
 
 	lay_directory();
+	lay_name(2, also);
 	if (answer == GUC_CSS_SIZES)
 		put(AT + 4, 38);
 	if (answer == GUC_CPD_BEYOND)
 		len--;
 	calling(called[a], answer, note);
-	lent_directory(2);
+	lent_directory(4 | also);
 	lent("other.part", blob + ENTRY(3), AT - ENTRY(3));
 	lent_image(AT, len - AT);
 	lent("dst", dst, sizeof(dst));
@@ -186,13 +96,14 @@ static void cpd(int copy, uint32_t answer, const char *sought, size_t bytes, siz
 		memset(blob + ENTRY(1), 0, 12);
 		memcpy(blob + ENTRY(1), sought, bytes);
 	}
+	lay_name(1, also);
 	if (answer == GUC_CPD_HEADER)
 		blob[3] = 'X';
 	if (answer == GUC_CPD_BEYOND)
 		put(ENTRY(1) + 16, DIRECTORY);
 	calling(copy ? "guc_cpd_copy" : "guc_cpd_part", answer, note);
 	lent("sought", name, bytes);
-	lent_directory(answer == GUC_NO_ENTRY ? 3 : 1);
+	lent_directory(answer == GUC_NO_ENTRY ? 0 : 2 | also);
 	if (len > ENTRY(3)) {
 		lent("other.part", blob + ENTRY(3), MANIFEST - ENTRY(3));
 		lent("asked", blob + MANIFEST, 44);
@@ -212,10 +123,11 @@ static void manifest(uint32_t answer)
 	uint32_t code;
 
 	lay_directory();
+	lay_name(1, also);
 	if (answer == GUC_SHORT_BLOB)
 		put(ENTRY(1) + 16, 43);
 	calling("guc_manifest_version", answer, "");
-	lent_directory(1);
+	lent_directory(2 | also);
 	lent("other.part", blob + ENTRY(3), MANIFEST + 36 - ENTRY(3));
 	lent("numbers", blob + MANIFEST + 36, 8);
 	lent("other.part", blob + AT, IMAGE);
@@ -236,6 +148,24 @@ static void cpd_both(int copy)
 	cpd(copy, GUC_CPD_ENTRIES, "HUCP.man", 8, ENTRY(3) - 1, "");
 	cpd(copy, GUC_NO_ENTRY, "HUCP.ma", 7, DIRECTORY, "prefix");
 	cpd(copy, GUC_CPD_BEYOND, "HUCP.man", 8, DIRECTORY, "");
+}
+
+/* The sought name twice, before and behind the entry that has it, and thrice. */
+static void twice(void)
+{
+	static const unsigned beside_1[3] = { 1, 4, 5 }, beside_2[3] = { 1, 2, 3 };
+	int a, k;
+
+	for (k = 0; k < 3; k++) {
+		also = beside_1[k];
+		cpd(0, GUC_DUPLICATE_ENTRY, "HUCP.man", 8, DIRECTORY, "twice");
+		cpd(1, GUC_DUPLICATE_ENTRY, "HUCP.manHUCP", 12, DIRECTORY, "twice");
+		manifest(GUC_DUPLICATE_ENTRY);
+		also = beside_2[k];
+		for (which = 0, a = ANSWER; a <= VERSION; a++)
+			huc(a, GUC_DUPLICATE_ENTRY, "twice");
+	}
+	also = 0;
 }
 
 void blob_calls(void)
@@ -267,4 +197,5 @@ void blob_calls(void)
 	cpd(1, GUC_NO_ROOM, "HUCP.man", 8, DIRECTORY, "");
 	manifest(GUC_OK);
 	manifest(GUC_SHORT_BLOB);
+	twice();
 }

@@ -1,5 +1,6 @@
 //! A few large blobs: parts, offsets and entry numbers that need more than 16
-//! or 24 bits, which the small generated ones can't have.
+//! or 24 bits, which the small generated ones can't have. So the second entry of
+//! a name may be one that 16 bits don't count.
 
 use crate::firmware::{check_css_blob, check_directory};
 use crate::same::Outcome;
@@ -55,7 +56,8 @@ fn directory(rng: &mut Rng, gap: usize, count: usize) -> Vec<u8> {
     blob
 }
 
-/// One large blob; one in six has its image past 16 MiB.
+/// One large blob; one in six has its image past 16 MiB. Two in three of those
+/// with many entries have the last one's name, the image's, once more.
 pub fn check(rng: &mut Rng, tally: &mut Tally) -> Outcome {
     if rng.chance(1, 2) {
         let blob = image(rng);
@@ -63,8 +65,14 @@ pub fn check(rng: &mut Rng, tally: &mut Tally) -> Outcome {
     }
     let far = rng.chance(1, 3);
     let gap = if far { (1 << 24) + rng.below(1000) as usize } else { rng.below(1 << 18) as usize };
-    let count = rng.pick(&[2, 300, 300, 70_000]);
-    let blob = directory(rng, gap, count);
+    let count = rng.pick(&[2, 300, 70_000, 70_000]);
+    let mut blob = directory(rng, gap, count);
     tally.mark("part past 16 MiB", far as u64);
+    let twice = count > 2 && rng.chance(2, 3);
+    if twice {
+        let first = rng.below(count as u64 - 2) as usize;
+        entry(&mut blob, 20 + 24 * first, b"huc_fw", first, 1);
+    }
+    tally.mark("second entry behind 65,536 others", (twice && count > 65_536) as u64);
     check_directory(rng, tally, &blob, b"huc_fw")
 }

@@ -6,6 +6,7 @@ pub mod calls;
 pub mod directories;
 pub mod images;
 pub mod messages;
+pub mod names;
 
 use crate::functions::Fun;
 use crate::sets::Set;
@@ -65,6 +66,8 @@ pub enum Edge {
     CpdBytes,
     CpdHeader,
     CpdEntries,
+    CpdNone,
+    CpdTwice,
     CpdEnd,
     OffsetBit,
     Manifest,
@@ -131,7 +134,7 @@ const fn row(
 
 /// All of them, in the order of `Edge`.
 #[rustfmt::skip]
-pub const BOUNDARIES: [Boundary; 52] = [
+pub const BOUNDARIES: [Boundary; 54] = [
     row(Edge::DescriptorBelow, "descriptor's dwords", ["15", "16"], (1, BELOW), CHANNEL),
     row(Edge::DescriptorAbove, "descriptor's dwords", ["16", "17"], (1, ABOVE), CHANNEL),
     row(Edge::LeastN, "N", ["1,023", "1,024"], (2, BELOW), CHANNEL),
@@ -181,6 +184,8 @@ pub const BOUNDARIES: [Boundary; 52] = [
     row(Edge::CpdBytes, "bytes of CPD", ["19", "20"], (15, BELOW), DIRECTORIES),
     row(Edge::CpdHeader, "header length H", ["19", "20"], (18, BELOW), DIRECTORIES),
     row(Edge::CpdEntries, "bytes of CPD", ["H + 24n - 1", "H + 24n"], (19, BELOW), DIRECTORIES),
+    row(Edge::CpdNone, "entries of that name", ["0", "1"], (20, BELOW), DIRECTORIES),
+    row(Edge::CpdTwice, "entries of that name", ["1", "2"], (22, ABOVE), DIRECTORIES),
     row(Edge::CpdEnd, "a part's end, of x bytes", ["x", "x + 1"], (21, ABOVE), DIRECTORIES),
     row(Edge::OffsetBit, "offset with one upper bit", ["25", "24"], (21, ABOVE), DIRECTORIES),
     row(Edge::Manifest, "bytes of manifest", ["43", "44"], (15, BELOW), &[ManifestVersion]),

@@ -3,13 +3,13 @@
 
 use crate::edges::directories::{of_directory, of_huc, of_manifest};
 use crate::edges::images::{of_image, of_room, of_which};
+use crate::edges::names::Sought;
 use crate::edges::{Stands, TRUNCATED};
 use crate::functions::Fun;
 use crate::guc::constants::*;
 use crate::guc::{self, Copied, Css, Manifest, Part, Version};
 use crate::lent::{bytes, Lent};
 use crate::same::{same, same_lent, Outcome};
-use crate::sets::Set;
 use crate::tally::Tally;
 use model::cpd;
 use model::css::{self, Image};
@@ -212,7 +212,7 @@ fn check_seek(rng: &mut Rng, tally: &mut Tally, lent: &Lent<u8>, name: &[u8]) ->
     let expected = Part { code, truncated: 0, start, len: end - start };
     let part = guc::cpd_part(blob, lent_name.get());
     same("part", part, expected)?;
-    let (stands, _) = of_directory(blob, name, Set::NameBit);
+    let (stands, _) = of_directory(blob, name, Sought::Any);
     tally.answer_at(Fun::CpdPart, code, &stands)?;
     tally.input(&stands);
     let empty_at_end = code == 0 && start == blob.len();

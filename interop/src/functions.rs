@@ -44,32 +44,32 @@ pub const FUNCTIONS: [(Fun, &str, &[u32]); 22] = [
     (Fun::CssPart, "guc_css_part", &[0, 15, 16, 17, 101]),
     (Fun::CssCopy, "guc_css_copy", &[0, 15, 16, 17, 100, 101]),
     (Fun::CssVersion, "guc_css_version", &[0, 15, 16, 17]),
-    (Fun::CpdPart, "guc_cpd_part", &[0, 14, 15, 18, 19, 20, 21]),
-    (Fun::CpdCopy, "guc_cpd_copy", &[0, 14, 15, 18, 19, 20, 21, 100]),
-    (Fun::ManifestVersion, "guc_manifest_version", &[0, 15, 18, 19, 20, 21]),
-    (Fun::HucAnswer, "guc_huc_answer", &[0, 15, 16, 17, 18, 19, 20, 21]),
-    (Fun::HucPart, "guc_huc_part", &[0, 15, 16, 17, 18, 19, 20, 21, 101]),
-    (Fun::HucCopy, "guc_huc_copy", &[0, 15, 16, 17, 18, 19, 20, 21, 100, 101]),
-    (Fun::HucVersion, "guc_huc_version", &[0, 15, 16, 17, 18, 19, 20, 21]),
+    (Fun::CpdPart, "guc_cpd_part", &[0, 14, 15, 18, 19, 20, 21, 22]),
+    (Fun::CpdCopy, "guc_cpd_copy", &[0, 14, 15, 18, 19, 20, 21, 22, 100]),
+    (Fun::ManifestVersion, "guc_manifest_version", &[0, 15, 18, 19, 20, 21, 22]),
+    (Fun::HucAnswer, "guc_huc_answer", &[0, 15, 16, 17, 18, 19, 20, 21, 22]),
+    (Fun::HucPart, "guc_huc_part", &[0, 15, 16, 17, 18, 19, 20, 21, 22, 101]),
+    (Fun::HucCopy, "guc_huc_copy", &[0, 15, 16, 17, 18, 19, 20, 21, 22, 100, 101]),
+    (Fun::HucVersion, "guc_huc_version", &[0, 15, 16, 17, 18, 19, 20, 21, 22]),
 ];
 
-/// The numbers 0 to 21, 100 and 101, each with a place.
-pub const NUMBERS: usize = 24;
+/// The numbers 0 to 22, 100 and 101, each with a place.
+pub const NUMBERS: usize = 25;
 
 /// The place of a number; none for a number that is no answer.
 pub fn place(code: u32) -> Option<usize> {
     match code {
-        0..=21 => Some(code as usize),
-        100 | 101 => Some(code as usize - 78),
+        0..=22 => Some(code as usize),
+        100 | 101 => Some(code as usize - 77),
         _ => None,
     }
 }
 
 /// The number at a place.
 pub fn number(place: usize) -> u32 {
-    if place < 22 {
+    if place < 23 {
         place as u32
     } else {
-        place as u32 + 78
+        place as u32 + 77
     }
 }

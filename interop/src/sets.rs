@@ -1,5 +1,6 @@
 //! Sets of which every member must come up in a run.
 
+use crate::edges::names::{ONCE, SOUGHT, TWICE};
 use crate::guc::constants::*;
 
 #[derive(Clone, Copy, Debug, PartialEq, Eq)]
@@ -8,6 +9,11 @@ pub enum Set {
     NameBit,
     ManifestBit,
     HucBit,
+    // Of the next, all but `TwiceLength` have their members for each of `SOUGHT`.
+    LaterBit,
+    Once,
+    Twice,
+    TwiceLength,
     ZeroPlace,
     MarkerBit,
     OffsetBit,
@@ -46,19 +52,28 @@ impl Set {
 
     /// A member by name.
     fn member(self, index: usize) -> String {
-        if self.of_types() {
-            return TYPES[index].1.to_string();
+        let of = |words: &[&str]| {
+            format!("{}: {}", SOUGHT[index / words.len()], words[index % words.len()])
+        };
+        match self {
+            Set::Once => of(&ONCE),
+            Set::Twice => of(&TWICE),
+            _ if self.of_types() => TYPES[index].1.to_string(),
+            _ => index.to_string(),
         }
-        index.to_string()
     }
 }
 
 /// Each with its name and how many members it has, in the order of `Set`.
-pub const SETS: [(Set, &str, usize); 20] = [
+pub const SETS: [(Set, &str, usize); 24] = [
     (Set::HeaderLength, "header length H, 0 to 255", 256),
     (Set::NameBit, "bit of an entry's name that alone is not the name sought", 96),
     (Set::ManifestBit, "bit of an entry's name that alone is not HUCP.man", 96),
     (Set::HucBit, "bit of an entry's name that alone is not huc_fw", 96),
+    (Set::LaterBit, "bit of a name behind the one found that alone makes it another", 3 * 96),
+    (Set::Once, "what is no second entry of a name, for each sought", 3 * ONCE.len()),
+    (Set::Twice, "ways in which entries share a name, for each sought", 3 * TWICE.len()),
+    (Set::TwiceLength, "bytes of a name that entries share (less 1)", 12),
     (Set::ZeroPlace, "place of a zero in a name sought", 12),
     (Set::MarkerBit, "bit of the marker that alone is wrong", 32),
     (Set::OffsetBit, "offset bit from 24 on that alone is set", 8),

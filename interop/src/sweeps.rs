@@ -26,13 +26,19 @@ const IMAGES: [Sweep<Vec<u8>>; 3] =
     [generate::every_length, generate::one_off, generate::wrapping_images];
 
 /// Directories with a name to seek.
-const DIRECTORIES: [Sweep<CpdCase>; 6] = [
+const DIRECTORIES: [Sweep<CpdCase>; 12] = [
     generate::every_name_bit,
     generate::every_name_length,
     generate::every_header_length,
     generate::every_part_length,
     generate::every_upper_bit,
     generate::every_wrap,
+    generate::every_repeat,
+    generate::every_repeat_cut,
+    generate::every_repeated_length,
+    generate::every_near_name,
+    generate::every_misplaced_name,
+    generate::every_uncounted_name,
 ];
 
 /// All sweeps of the channel and of messages.

@@ -30,6 +30,7 @@ const MEANINGS: [&str; NUMBERS] = [
     "CPD entries beyond",
     "no entry of that name",
     "entry's part beyond",
+    "more than one entry of that name",
     "destination too short",
     "no such type or component",
 ];

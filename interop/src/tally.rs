@@ -8,7 +8,7 @@ use crate::sets::{Members, Set, TYPES};
 use std::collections::BTreeMap;
 
 /// Things that must come up beside the numbers.
-pub const MARKS: [&str; 28] = [
+pub const MARKS: [&str; 29] = [
     "output longer than 256: rest unchanged",
     "message across the ring's end",
     "ring full after an operation",
@@ -23,6 +23,7 @@ pub const MARKS: [&str; 28] = [
     "refused copy: destination unchanged",
     "part of 0 bytes at the blob's end",
     "part past 16 MiB",
+    "second entry behind 65,536 others",
     "call with a slice against a forbidden page",
     "wrap at 32 + k",
     "wrap at + m",

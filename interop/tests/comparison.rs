@@ -78,9 +78,11 @@ fn both_kinds_of_places() {
 #[test]
 fn numbers_have_places() {
     let codes: Vec<u32> = (0..NUMBERS).map(number).collect();
-    assert_eq!(codes[21..], [21, 100, 101]);
+    assert_eq!(codes[21..], [21, 22, 100, 101]);
     assert!(codes.iter().enumerate().all(|(at, code)| place(*code) == Some(at)));
-    assert_eq!((place(22), place(99), place(102)), (None, None, None));
+    assert_eq!((place(23), place(99), place(102)), (None, None, None));
     let empty = Tally::default().missing();
     assert!(empty.iter().any(|line| line == "guc_receive never answered 9"));
+    let twice = empty.iter().filter(|line| line.ends_with(" never answered 22"));
+    assert_eq!(twice.count(), 7, "each function that seeks a name, and no other");
 }

@@ -4,6 +4,7 @@
 use interop::edges::directories::{of_directory, of_manifest};
 use interop::edges::images::of_image;
 use interop::edges::messages::of_message;
+use interop::edges::names::{Sought, ONCE, TWICE};
 use interop::edges::{Edge, Stands, BOUNDARIES};
 use interop::functions::{Fun, FUNCTIONS};
 use interop::guc::constants::*;
@@ -65,7 +66,7 @@ fn directories_and_messages_stand() {
     let mut blob = b"$CPD\x01\0\0\0\x01\x01\x14\0........HUCP.mao\0\0\0\0".to_vec();
     blob.extend([44, 0, 0, 0, 43, 0, 0, 0, 0, 0, 0, 0]);
     blob.resize(87, 1);
-    let (stands, part) = of_directory(&blob, b"HUCP.man", Set::NameBit);
+    let (stands, part) = of_directory(&blob, b"HUCP.man", Sought::Any);
     assert_eq!((part, stands.members), (None, vec![(Set::NameBit, 56)]));
     blob[27] = b'n';
     let stands = of_manifest(&blob);
@@ -74,6 +75,54 @@ fn directories_and_messages_stand() {
     assert_eq!(stands.members, [(Set::HeaderLength, 20)]);
     let (stands, well_formed) = of_message(&[0x1234_0001, 0xF000_0000, 0]);
     assert_eq!((side(&stands, Edge::MessageAbove), well_formed), (Some(1), false));
+}
+
+/// A directory that counts `count` entries and has these, each with a part of no
+/// bytes at this offset.
+fn names(count: u8, names: &[(&[u8; 12], u8)]) -> Vec<u8> {
+    let mut blob = b"$CPD\0\0\0\0\x01\x01\x14\0........".to_vec();
+    blob[4] = count;
+    for (name, offset) in names {
+        blob.extend(*name);
+        blob.extend([*offset, 0, 0, 0, 0, 0, 0, 0, 9, 9, 9, 9]);
+    }
+    blob
+}
+
+/// The side of "entries of that name, 1 or 2", and the members of a set by name.
+fn of_names(blob: &[u8], set: Set, words: &[&'static str]) -> (Option<usize>, Vec<&'static str>) {
+    let (stands, part) = of_directory(blob, b"huc_fw", Sought::Any);
+    let twice = side(&stands, Edge::CpdTwice);
+    assert_eq!(part.is_some(), twice == Some(0), "a part only where one has the name");
+    let members = stands.members.iter().filter(|(of, _)| *of == set);
+    (twice, members.map(|(_, index)| words[*index]).collect())
+}
+
+#[test]
+fn names_stand_once_or_twice() {
+    let (huc, other) = ((b"huc_fw\0\0\0\0\0\0", 20), (b"other\0\0\0\0\0\0\0", 20));
+    let once = |count, list: &[(&[u8; 12], u8)]| of_names(&names(count, list), Set::Once, &ONCE);
+    assert_eq!(once(1, &[huc]), (Some(0), vec![]));
+    assert_eq!(once(1, &[huc, huc]), (Some(0), vec![ONCE[8]]));
+    assert_eq!(once(3, &[other, huc, other]), (Some(0), vec![ONCE[6]]));
+    let near: [&[u8; 12]; 3] = [b"huc_f\0\0\0\0\0\0\0", b"huc_fw2\0\0\0\0\0", b"huc_fw\0\0\0x\0\0"];
+    for (kind, name) in near.into_iter().enumerate() {
+        assert_eq!(once(2, &[(name, 20), huc]), (Some(0), vec![ONCE[kind]]));
+        assert_eq!(once(2, &[huc, (name, 20)]), (Some(0), vec![ONCE[kind + 3]]));
+        assert_eq!(once(1, &[(name, 20)]), (None, vec![]));
+    }
+    let mut inside = names(2, &[other, huc]);
+    inside[32..44].copy_from_slice(huc.0);
+    assert_eq!(of_names(&inside, Set::Once, &ONCE), (Some(0), vec![ONCE[7]]));
+    let twice =
+        |list: &[(&[u8; 12], u8)]| of_names(&names(list.len() as u8, list), Set::Twice, &TWICE);
+    let (there, away) = ((huc.0, 21), (huc.0, 255));
+    assert_eq!(twice(&[huc, huc]), (Some(1), vec![TWICE[0], TWICE[4], TWICE[9]]));
+    assert_eq!(twice(&[huc, other, there]), (Some(1), vec![TWICE[1], TWICE[5], TWICE[9]]));
+    assert_eq!(twice(&[other, away, huc]), (Some(1), vec![TWICE[0], TWICE[5], TWICE[6]]));
+    assert_eq!(twice(&[huc, away, other]), (Some(1), vec![TWICE[0], TWICE[5], TWICE[7]]));
+    assert_eq!(twice(&[away, away]), (Some(1), vec![TWICE[0], TWICE[4], TWICE[8]]));
+    assert_eq!(twice(&[huc, huc, there]), (None, vec![TWICE[3], TWICE[9]]));
 }
 
 #[test]
@@ -103,4 +152,10 @@ fn a_side_must_be_answered_as_the_paper_says() {
     let missing = tally.missing();
     assert!(missing.iter().any(|line| line == "guc_unpack: the message's dwords, L"));
     assert!(!missing.iter().any(|line| line == "guc_unpack: the message's dwords, L - 1"));
+    let two = names(2, &[(b"huc_fw\0\0\0\0\0\0", 20); 2]);
+    let (stands, _) = of_directory(&two, b"huc_fw", Sought::Any);
+    for code in [0, 20, 21] {
+        assert!(tally.answer_at(Fun::CpdPart, code, &stands).is_err());
+    }
+    assert!(tally.answer_at(Fun::CpdPart, 22, &stands).is_ok());
 }

@@ -167,6 +167,65 @@ struct guc_copied guc_css_copy(const uint8_t *blob, size_t len, uint32_t which, 
 	return c;
 }
 
+static uint8_t byte(const uint8_t *at)
+{
+	return *(const volatile uint8_t *)at;
+}
+
+static int has_name(const uint8_t *entry, const uint8_t *name, size_t len)
+{
+	size_t k;
+
+	for (k = 0; k < 12; k++)
+		if (byte(entry + k) != (k < len ? byte(name + k) : 0))
+			return 0;
+	return 1;
+}
+
+/* 14, 18 and 19, all that the scenes meet; H and n are read once, so that no entry
+ * outside the blob is read. */
+static uint32_t may_walk(const uint8_t *blob, size_t len, const uint8_t *name, size_t name_len,
+			 size_t *at, size_t *count)
+{
+	size_t k;
+
+	for (k = 0; k < name_len; k++)
+		if (byte(name + k) == 0)
+			return GUC_BAD_FIELD;
+	*at = byte(blob + 10);
+	*count = dword(blob + 4);
+	if (dword(blob) != 0x44504324u || *at < 20)
+		return GUC_CPD_HEADER;
+	return *at + 24 * *count > len ? GUC_CPD_ENTRIES : GUC_OK;
+}
+
+/* Walks once to count the entries of the name and again to find the first; its
+ * offset and length are read again after they were judged. */
+struct guc_part guc_cpd_part(const uint8_t *blob, size_t len, const uint8_t *name, size_t name_len)
+{
+	struct guc_part p = { GUC_OK, 0, 0, 0 };
+	size_t k, at, count, named = 0;
+
+	p.code = may_walk(blob, len, name, name_len, &at, &count);
+	if (p.code)
+		return p;
+	for (k = 0; k < count; k++)
+		named += (size_t)has_name(blob + at + 24 * k, name, name_len);
+	for (k = 0; k < count && !has_name(blob + at + 24 * k, name, name_len); k++)
+		;
+	p.code = named > 1 ? GUC_DUPLICATE_ENTRY : named == 0 || k == count ? GUC_NO_ENTRY : GUC_OK;
+	if (p.code)
+		return p;
+	blob += at + 24 * k;
+	if ((dword(blob + 12) & 0x1FFFFFFu) + (size_t)dword(blob + 16) > len) {
+		p.code = GUC_CPD_BEYOND;
+		return p;
+	}
+	p.start = dword(blob + 12) & 0x1FFFFFFu;
+	p.len = dword(blob + 16);
+	return p;
+}
+
 struct guc_version guc_css_version(const uint8_t *blob, size_t len)
 {
 	struct guc_version v = { guc_css_answer(blob, len).code, 0, 0, 0 };

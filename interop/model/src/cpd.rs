@@ -12,7 +12,8 @@ fn dword(blob: &[u8], at: usize) -> u64 {
     u32::from_le_bytes([blob[at], blob[at + 1], blob[at + 2], blob[at + 3]]) as u64
 }
 
-/// The directory's own numbers but 20 and 21: 14, 15, 18, 19, else 0.
+/// The directory's own numbers before its entries are walked: 14, 15, 18, 19,
+/// else 0.
 fn judge_directory(blob: &[u8], name: &[u8]) -> u32 {
     // 14: "name to seek not 1 to 12 bytes without a zero"
     if name.is_empty() || name.len() > 12 || name.contains(&0) {
@@ -34,24 +35,30 @@ fn judge_directory(blob: &[u8], name: &[u8]) -> u32 {
     0
 }
 
-/// "The walk ends at the first entry whose twelve bytes agree." Answers the
-/// place of that entry; asked only of a directory that `judge_directory` passed.
-fn find_entry(blob: &[u8], name: &[u8]) -> Option<usize> {
+/// The places of all entries that have this name, those "whose twelve bytes
+/// agree": "the walk now goes on to the last entry" (T-03). Asked only of a
+/// directory that `judge_directory` passed.
+fn entries_named(blob: &[u8], name: &[u8]) -> Vec<usize> {
     let mut padded = [0u8; 12];
     padded[..name.len()].copy_from_slice(name);
     let count = dword(blob, 4) as usize;
-    (0..count).map(|index| blob[10] as usize + 24 * index).find(|&at| blob[at..at + 12] == padded)
+    let places = (0..count).map(|index| blob[10] as usize + 24 * index);
+    places.filter(|&at| blob[at..at + 12] == padded).collect()
 }
 
-/// The number and the part's (start, end); (0, 0) on a refusal.
+/// The number and the part's (start, end); (0, 0) on a refusal. The order is
+/// 14, 15, 18, 19, 20, 22, 21.
 pub fn seek(blob: &[u8], name: &[u8]) -> (u32, usize, usize) {
     let code = judge_directory(blob, name);
     if code != 0 {
         return (code, 0, 0);
     }
-    let at = match find_entry(blob, name) {
-        Some(at) => at,
-        None => return (20, 0, 0),
+    // 20: "no entry of that name"; T-03: "22 when more than one entry has it,
+    // tested after 20 and before 21", whatever else the entries say
+    let at = match entries_named(blob, name)[..] {
+        [] => return (20, 0, 0),
+        [at] => at,
+        _ => return (22, 0, 0),
     };
     // "offset dword (bits 24:0 count), length dword"
     let start = dword(blob, at + 12) & 0x01FF_FFFF;
@@ -74,7 +81,7 @@ pub fn version_in_manifest(part: &[u8]) -> Result<[u32; 4], u32> {
 }
 
 /// The firmware version in the directory's `HUCP.man`, after the directory's
-/// own numbers.
+/// own numbers: "The manifest and CSS readings inside a directory pass 22 on".
 pub fn manifest_version(blob: &[u8]) -> Result<[u32; 4], u32> {
     match seek(blob, MANIFEST) {
         (0, start, end) => version_in_manifest(&blob[start..end]),
@@ -83,9 +90,9 @@ pub fn manifest_version(blob: &[u8]) -> Result<[u32; 4], u32> {
 }
 
 /// The image in `huc_fw`: "a part inside a directory is judged only after the
-/// directory's own numbers, 14 to 21, have passed". A refusal gives the empty
-/// part at the start of the outer blob, and so does a truncated image for
-/// modulus and exponent.
+/// directory's own numbers, 14 to 21, have passed", which since T-03 "include
+/// what a request adds", 22. A refusal gives the empty part at the start of the
+/// outer blob, and so does a truncated image for modulus and exponent.
 pub fn huc_locate(blob: &[u8]) -> Image {
     let (code, start, end) = seek(blob, HUC_FW);
     if code != 0 {

@@ -1,6 +1,6 @@
 //! An independent model of 01-scope.md, the other side of differential tests,
-//! with what T-02 of 02-change-requests.md mends in it. Written from the papers
-//! alone: plain code, no cleverness, no outside crates.
+//! with what T-02 and T-03 of 02-change-requests.md mend in it. Written from the
+//! papers alone: plain code, no cleverness, no outside crates.
 
 #![forbid(unsafe_code)]
 

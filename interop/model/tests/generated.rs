@@ -2,7 +2,11 @@
 //! all answers holds of each (what is left, what the state becomes, L).
 
 use model::channel::{Answer, State, HEAD, STATUS, TAIL};
-use model::generate::{case_for, cpd_case, css_blob, fields, message, well_formed_of, Rng};
+use model::generate::{
+    case_for, cpd_case, css_blob, every_misplaced_name, every_name_bit, every_near_name,
+    every_repeat, every_repeat_cut, every_repeated_length, every_uncounted_name, fields, message,
+    well_formed_of, CpdCase, Rng,
+};
 use model::message::{is_message, pack, unpack, TYPES};
 use model::run::{Case, Op};
 use model::{cpd, css};
@@ -132,16 +136,36 @@ fn every_number_of_css() {
     assert!([15, 16, 17].iter().all(|&code| counts[code] > 1000));
 }
 
+/// How many entries have this name, by cutting the blob into entries; asked only
+/// where 14 to 19 have passed, so all entries must be there.
+fn named(blob: &[u8], name: &[u8]) -> usize {
+    let count = u32::from_le_bytes([blob[4], blob[5], blob[6], blob[7]]) as usize;
+    assert!(blob.len() >= blob[10] as usize + 24 * count);
+    let has = |entry: &&[u8]| {
+        entry[..name.len()] == *name && entry[name.len()..12].iter().all(|&byte| byte == 0)
+    };
+    blob[blob[10] as usize..].chunks_exact(24).take(count).filter(has).count()
+}
+
+/// 20 for none, 22 for more than one, and neither for one.
+fn check_named(blob: &[u8], name: &[u8], code: u32) {
+    if ![14, 15, 18, 19].contains(&code) {
+        let count = named(blob, name);
+        assert_eq!((code == 20, code == 22), (count == 0, count > 1), "{count} entries");
+    }
+}
+
 #[test]
 fn every_number_of_cpd() {
     let mut rng = Rng::new(24);
-    let (mut seek, mut manifest, mut huc) = ([0u32; 22], [0u32; 22], [0u32; 22]);
+    let (mut seek, mut manifest, mut huc) = ([0u32; 23], [0u32; 23], [0u32; 23]);
     let (mut truncated, mut empty_at_end) = (0, 0);
     for _ in 0..20000 {
         let case = cpd_case(&mut rng);
         let (code, start, end) = cpd::seek(&case.blob, &case.name);
         assert!(case.blob.get(start..end).is_some());
         seek[code as usize] += 1;
+        check_named(&case.blob, &case.name, code);
         empty_at_end += (code == 0 && start == case.blob.len()) as u32;
         manifest[cpd::manifest_version(&case.blob).err().unwrap_or(0) as usize] += 1;
         let image = cpd::huc_locate(&case.blob);
@@ -155,8 +179,40 @@ fn every_number_of_cpd() {
     println!("seek: {seek:?}, empty at the end {empty_at_end}");
     println!("manifest: {manifest:?}");
     println!("huc_fw: {huc:?}, truncated {truncated}");
-    assert!([0, 14, 15, 18, 19, 20, 21].iter().all(|&code| seek[code] > 200));
-    assert!([0, 15, 18, 19, 20, 21].iter().all(|&code| manifest[code] > 200));
-    assert!([0, 15, 16, 17, 18, 19, 20, 21].iter().all(|&code| huc[code] > 200));
+    assert!([0, 14, 15, 18, 19, 20, 21, 22].iter().all(|&code| seek[code] > 200));
+    assert!([0, 15, 18, 19, 20, 21, 22].iter().all(|&code| manifest[code] > 200));
+    assert!([0, 15, 16, 17, 18, 19, 20, 21, 22].iter().all(|&code| huc[code] > 200));
     assert!(truncated > 200 && empty_at_end > 200);
+}
+
+/// The numbers of a sweep's directories: of the name sought, which is one of
+/// these, and of the manifest and the image where it is theirs.
+fn answers_of(sweep: fn(&mut Rng) -> Vec<CpdCase>, seed: u64, seek: &[u32]) {
+    let cases = sweep(&mut Rng::new(seed));
+    assert!(cases.len() >= 12);
+    for CpdCase { blob, name } in cases {
+        let (code, _, _) = cpd::seek(&blob, &name);
+        assert!(seek.contains(&code), "{}: {code}", name.escape_ascii());
+        check_named(&blob, &name, code);
+        let inner = match &name[..] {
+            cpd::MANIFEST => cpd::manifest_version(&blob).err(),
+            cpd::HUC_FW => cpd::huc_version(&blob).err(),
+            _ => continue,
+        };
+        assert!(code == 0 || inner == Some(code), "{}: {inner:?}", name.escape_ascii());
+        assert!(code != 0 || ![Some(20), Some(22)].contains(&inner));
+    }
+}
+
+#[test]
+fn sweeps_of_names() {
+    for seed in 0..20 {
+        answers_of(every_repeat, seed, &[22]);
+        answers_of(every_repeat_cut, seed, &[15, 19, 22]);
+        answers_of(every_repeated_length, seed, &[22]);
+        answers_of(every_near_name, seed, &[0, 20]);
+        answers_of(every_uncounted_name, seed, &[0]);
+        answers_of(every_misplaced_name, seed, &[0]);
+        answers_of(every_name_bit, seed, &[0, 20]);
+    }
 }

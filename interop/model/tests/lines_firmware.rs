@@ -93,8 +93,8 @@ fn cpd_ends() {
 
 #[test]
 fn cpd_numbers() {
-    let blob = directory(&[(b"huc_fw2", 1, 0), (b"huc_fw", 2, 1), (b"huc_fw", 3, 1)], 100);
-    assert_eq!(cpd::seek(&blob, b"huc_fw"), (0, 2, 3), "no prefix, and the first");
+    let blob = directory(&[(b"huc_fw2", 1, 0), (b"huc_fw", 2, 1), (b"other", 3, 1)], 100);
+    assert_eq!(cpd::seek(&blob, b"huc_fw"), (0, 2, 3), "no prefix");
     assert_eq!(cpd::seek(&blob, b"huc_f"), (20, 0, 0));
     let bad: [&[u8]; 4] = [b"", b"0123456789abc", b"huc_fw\0", b"\0"];
     for name in bad {

@@ -1,19 +1,19 @@
 //! At which boundaries a directory and a name to seek in it stand, worked out
-//! from their bytes; one counts only where no lower number applies. Also which
-//! names come near the one sought, and which sums would come out otherwise if
-//! they wrapped.
+//! from their bytes; one counts only where none of the numbers that are tested
+//! before applies (14, 15, 18, 19, 20, 22, 21). Also which sums would come out
+//! otherwise if they wrapped.
 
 use super::images::{dword, of_image, WRAP};
+use super::names::{end, Sought, Walk};
 use super::{Edge, Stands};
 use crate::sets::Set;
 use std::ops::Range;
 
 /// Where a directory stands in which this name is sought, and the part found.
-/// `names` is the set of names one bit off this one.
-pub fn of_directory(blob: &[u8], name: &[u8], names: Set) -> (Stands, Option<Range<usize>>) {
+pub fn of_directory(blob: &[u8], name: &[u8], sought: Sought) -> (Stands, Option<Range<usize>>) {
     let mut stands = Stands::default();
     let part = if of_name(&mut stands, name) && of_header(&mut stands, blob) {
-        find(&mut stands, blob, name, names)
+        find(&mut stands, blob, name, sought)
     } else {
         None
     };
@@ -22,7 +22,7 @@ pub fn of_directory(blob: &[u8], name: &[u8], names: Set) -> (Stands, Option<Ran
 
 /// Where a directory stands as its manifest's version is read.
 pub fn of_manifest(blob: &[u8]) -> Stands {
-    let (mut stands, part) = of_directory(blob, b"HUCP.man", Set::ManifestBit);
+    let (mut stands, part) = of_directory(blob, b"HUCP.man", Sought::Manifest);
     if let Some(part) = part {
         stands.at(Edge::Manifest, part.len() as u64, [43, 44]);
     }
@@ -31,7 +31,7 @@ pub fn of_manifest(blob: &[u8]) -> Stands {
 
 /// Where a directory stands as the image in it is judged.
 pub fn of_huc(blob: &[u8]) -> Stands {
-    let (mut stands, part) = of_directory(blob, b"huc_fw", Set::HucBit);
+    let (mut stands, part) = of_directory(blob, b"huc_fw", Sought::Huc);
     if let Some(part) = part {
         stands.add(of_image(&blob[part]));
     }
@@ -79,37 +79,28 @@ fn of_header(stands: &mut Stands, blob: &[u8]) -> bool {
     sum <= bytes
 }
 
-/// The one bit in which two names of twelve bytes differ, if it is one.
-fn one_bit(left: &[u8], right: &[u8; 12]) -> Option<usize> {
-    let bits: u32 = left.iter().zip(right).map(|(l, r)| (l ^ r).count_ones()).sum();
-    let at = left.iter().zip(right).position(|(l, r)| l != r)?;
-    (bits == 1).then(|| 8 * at + (left[at] ^ right[at]).trailing_zeros() as usize)
-}
-
-/// Walks the entries up to the one of this name; its part, if it is there.
-fn find(stands: &mut Stands, blob: &[u8], name: &[u8], names: Set) -> Option<Range<usize>> {
-    let mut padded = [0; 12];
-    padded[..name.len()].copy_from_slice(name);
-    let count = dword(blob, 4) as usize;
-    for entry in blob[blob[10] as usize..].chunks_exact(24).take(count) {
-        if entry[..12] == padded {
-            let part = of_part(stands, entry, blob.len() as u64);
-            if part.is_some() {
-                stands.member(Set::HeaderLength, blob[10] as usize);
-            }
-            return part;
-        }
-        if let Some(bit) = one_bit(&entry[..12], &padded) {
-            stands.member(names, bit);
-        }
+/// Numbers 20 and 22, by all entries. The part of the one that has the name, if
+/// it is the only one and its part is there.
+fn find(stands: &mut Stands, blob: &[u8], name: &[u8], sought: Sought) -> Option<Range<usize>> {
+    let walk = Walk::of(blob, name);
+    let count = walk.named.len() as u64;
+    stands.at(Edge::CpdNone, count, [0, 1]);
+    stands.at(Edge::CpdTwice, count, [1, 2]);
+    walk.note(stands, sought);
+    if count != 1 {
+        return None;
     }
-    None
+    let part = of_part(stands, walk.entries[walk.named[0]], blob.len() as u64);
+    if part.is_some() {
+        stands.member(Set::HeaderLength, blob[10] as usize);
+    }
+    part
 }
 
 /// Number 21. The part, where it passes.
 fn of_part(stands: &mut Stands, entry: &[u8], bytes: u64) -> Option<Range<usize>> {
     let (offset, length) = (dword(entry, 12), dword(entry, 16));
-    let end = offset % (1 << 25) + length;
+    let end = end(entry);
     stands.at(Edge::CpdEnd, end, [bytes, bytes + 1]);
     stands.mark("wrap at offset + length", end >= WRAP && end % WRAP <= bytes);
     // One upper bit, which decides alone: the part is in the blob without it.

@@ -32,6 +32,7 @@ constants! {
     GUC_CPD_ENTRIES = 19,
     GUC_NO_ENTRY = 20,
     GUC_CPD_BEYOND = 21,
+    GUC_DUPLICATE_ENTRY = 22,
     GUC_NO_ROOM = 100,
     GUC_NO_SUCH = 101,
     GUC_STATE_WORDS = 260,

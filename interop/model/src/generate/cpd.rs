@@ -1,5 +1,5 @@
 //! CPD blobs near-valid in every way, with a name to seek; many hold a
-//! manifest and a CSS image in `huc_fw`.
+//! manifest and a CSS image in `huc_fw`, some of them two of one name.
 
 use super::css::css_blob;
 use super::Rng;
@@ -49,6 +49,33 @@ fn entry_name(rng: &mut Rng) -> [u8; 12] {
         flip_one(rng, &mut name);
     }
     name
+}
+
+/// Names for the entries: mostly no two alike, else as chance brings them. It
+/// brings the same name often enough to hide what else there is to refuse.
+fn names(rng: &mut Rng, count: usize) -> Vec<[u8; 12]> {
+    let apart = rng.chance(7, 8);
+    let mut names = Vec::new();
+    while names.len() < count {
+        let name = entry_name(rng);
+        if !apart || !names.contains(&name) {
+            names.push(name);
+        }
+    }
+    names
+}
+
+/// Gives an entry's name to another or to all, or makes two alike in all that
+/// an entry says.
+fn repeat(rng: &mut Rng, list: &mut [Entry]) {
+    let (from, to) = (rng.below(list.len() as u64), rng.below(list.len() as u64));
+    let Entry { name, offset, length, .. } = list[from as usize];
+    let to = &mut list[to as usize];
+    match rng.below(4) {
+        0 => (to.name, to.offset, to.length) = (name, offset, length),
+        1 => list.iter_mut().for_each(|entry| entry.name = name),
+        _ => to.name = name,
+    }
 }
 
 /// What an entry of this name holds, if it holds it properly.
@@ -171,10 +198,7 @@ pub fn cpd_case(rng: &mut Rng) -> CpdCase {
     };
     let count = rng.pick(&[0usize, 1, 1, 2, 2, 2, 3, 3, 5]);
     let entries_end = header as usize + 24 * count;
-    let parts = (0..count).map(|_| {
-        let name = entry_name(rng);
-        (name, contents(rng, &name))
-    });
+    let parts = names(rng, count).into_iter().map(|name| (name, contents(rng, &name)));
     let mut list = laid(header, parts.collect());
     let slack = rng.pick(&[0usize, 0, 0, 1, 24, 40]);
     let end = list.last().map_or(entries_end, |last| last.offset as usize + last.contents.len());
@@ -182,6 +206,9 @@ pub fn cpd_case(rng: &mut Rng) -> CpdCase {
         if rng.chance(1, 3) {
             tweak(rng, entry, (end + slack) as u32);
         }
+    }
+    if count > 1 && rng.chance(1, 6) {
+        repeat(rng, &mut list);
     }
     let written = match rng.below(16) {
         0 => rng.pick(&[0x0AAA_AAAB, 0x2000_0000, 0x4000_0000, u32::MAX, 0x0AAA_AAAA, 1 << 31]),

@@ -5,7 +5,7 @@ use super::cpd::{contents, laid, render, CpdCase, Entry};
 use super::Rng;
 
 /// A name's twelve bytes.
-fn padded(name: &[u8]) -> [u8; 12] {
+pub(super) fn padded(name: &[u8]) -> [u8; 12] {
     let mut bytes = [0; 12];
     let count = name.len().min(12);
     bytes[..count].copy_from_slice(&name[..count]);
@@ -13,12 +13,12 @@ fn padded(name: &[u8]) -> [u8; 12] {
 }
 
 /// A name of this many bytes, none of them zero.
-fn some_name(rng: &mut Rng, count: usize) -> Vec<u8> {
+pub(super) fn some_name(rng: &mut Rng, count: usize) -> Vec<u8> {
     (0..count).map(|_| rng.between(1, 255) as u8).collect()
 }
 
 /// One of the three kinds of names that are sought, of 1 to 12 bytes.
-fn sought(rng: &mut Rng, kind: usize) -> Vec<u8> {
+pub(super) fn sought(rng: &mut Rng, kind: usize) -> Vec<u8> {
     let count = rng.between(1, 12) as usize;
     match kind {
         0 => b"HUCP.man".to_vec(),
@@ -28,12 +28,12 @@ fn sought(rng: &mut Rng, kind: usize) -> Vec<u8> {
 }
 
 /// A header length that is allowed.
-fn header(rng: &mut Rng) -> u8 {
+pub(super) fn header(rng: &mut Rng) -> u8 {
     rng.between(20, 255) as u8
 }
 
 /// A directory of these entries, with some bytes behind it.
-fn directory(rng: &mut Rng, header: u8, list: &[Entry]) -> Vec<u8> {
+pub(super) fn directory(rng: &mut Rng, header: u8, list: &[Entry]) -> Vec<u8> {
     let slack = rng.below(60) as usize;
     let end = header as usize + list.iter().map(|e| 24 + e.contents.len()).sum::<usize>();
     render(rng, header, list.len() as u32, list, end + slack)
@@ -46,22 +46,20 @@ pub fn directory_of(rng: &mut Rng, name: &[u8], part: Vec<u8>) -> CpdCase {
     CpdCase { blob, name: name.to_vec() }
 }
 
-/// For each name and each of its 96 bits: an entry with that bit changed, and
-/// behind it nothing or the entry itself.
+/// For each name and each of its 96 bits: an entry with that bit changed, alone,
+/// with the entry itself behind it, or before it.
 pub fn every_name_bit(rng: &mut Rng) -> Vec<CpdCase> {
     let one = |index: usize| {
-        let (bit, kind) = (index % 96, index / 192);
+        let (bit, order, kind) = (index % 96, index / 96 % 3, index / 288);
         let name = sought(rng, kind);
         let (right, mut wrong) = (padded(&name), padded(&name));
         wrong[bit / 8] ^= 1 << (bit % 8);
-        let mut parts = vec![(wrong, contents(rng, &wrong))];
-        if index / 96 % 2 == 1 {
-            parts.push((right, contents(rng, &right)));
-        }
+        let names = [vec![wrong], vec![wrong, right], vec![right, wrong]];
+        let parts = names[order].iter().map(|name| (*name, contents(rng, name))).collect();
         let header = header(rng);
         CpdCase { blob: directory(rng, header, &laid(header, parts)), name }
     };
-    (0..3 * 2 * 96).map(one).collect()
+    (0..3 * 3 * 96).map(one).collect()
 }
 
 /// Each header length, with a manifest and an image behind it.
