@@ -5,6 +5,7 @@ use mathlib.Core.Bool.{Bool, cond}
 use mathlib.Core.List.{List}
 use lib.ListN.{length, getD}
 use lib.Dec.{eqb, ltb}
+use Rattle.firmware.specs.Bytes.{dwordAt}
 use Rattle.firmware.specs.Css
 use Rattle.firmware.specs.Cpd
 use Rattle.firmware.specs.Version.{Reading, reading, manifestVersion}
@@ -40,6 +41,10 @@ Keyed name key = (j : ℕ) → j < 12 → getD key j 0 ≡ getD name j 0
 -- whether every name of so many bytes with that key may be sought
 abbrev pub NameBy : List ℕ → ℕ → Bool → Type 0
 NameBy key len r = (name : List ℕ) → length name ≡ len → Keyed name key → r ≡ Cpd.isName name
+
+-- eight bytes as one number, the first eight of a name
+unfoldable pub frontAt : List ℕ → ℕ → ℕ
+frontAt b at = dwordAt b at + 2 ^ 32 * dwordAt b (at + 4)
 
 -- a directory's number, where its entries start and how many they are
 unfoldable pub tableOf : List ℕ → Table

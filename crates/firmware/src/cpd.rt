@@ -12,6 +12,7 @@ use crate::bytes::refused;
 use crate::bytes::wide;
 use crate::name::NAME_BYTES;
 use crate::name::front;
+use crate::name::front_at;
 use crate::name::is_name;
 use crate::name::key_of;
 use crate::refusal;
@@ -87,7 +88,7 @@ fn read_table(blob: &[u8]) -> Table
 }
 
 // Of `count` entries from byte `start`, the index of the first from entry `from` on whose twelve bytes are the key's; where there is none, the index behind
-// them. Each byte of a name is read once: the first four as a dword, which most entries fail, then one after another.
+// them. Each byte of a name is read once: the first eight as one number, which most entries fail, then one after another.
 fn walk(blob: &[u8], start: usize, count: usize, from: usize, key: [u8; NAME_BYTES]) -> usize
     requires { ⌜ start + 24 * count ≤ length (now blob) ⌝ }
     ensures { λ r. ⌜ r ≡ walked (now (blob .entry)) key start count from ⌝ }
@@ -99,11 +100,11 @@ fn walk(blob: &[u8], start: usize, count: usize, from: usize, key: [u8; NAME_BYT
             break 'entries i;
         }
         let at = start + ENTRY_BYTES * i;
-        if dword_at(blob, at) != first {
+        if front_at(blob, at) != first {
             i += 1;
             continue 'entries;
         }
-        for j in 4..NAME_BYTES {
+        for j in 8..NAME_BYTES {
             if blob[at + j] != key[j] {
                 i += 1;
                 continue 'entries;

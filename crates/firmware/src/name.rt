@@ -1,9 +1,9 @@
 // A name to seek: copied once, zero padded, and judged on the copy. The lent name is not read again.
 ghost use mathlib.Core.Path.{_≡_};
-ghost use lib.ListN.{getD};
-ghost use Rattle.firmware.specs.Bytes.{dwordAt};
-ghost use Rattle.firmware.specs.Private.{Keyed, NameBy};
-use crate::bytes::wide;
+ghost use Prim.Native.Nat.{_+_, _≤_};
+ghost use lib.ListN.{getD, length};
+ghost use Rattle.firmware.specs.Private.{Keyed, NameBy, frontAt};
+use crate::bytes::dword_at;
 
 // 'name 12 bytes (zero padded)'
 pub(crate) const NAME_BYTES: usize = 12;
@@ -44,9 +44,17 @@ pub(crate) fn is_name(key: [u8; NAME_BYTES], len: usize) -> bool
     true
 }
 
-// The key's first dword.
+// The key's first eight bytes as one number.
 pub(crate) fn front(key: [u8; NAME_BYTES]) -> usize
-    ensures { λ r. ⌜ r ≡ dwordAt key 0 ⌝ }
+    ensures { λ r. ⌜ r ≡ frontAt key 0 ⌝ }
 {
-    wide(key[0]) + 0x100 * wide(key[1]) + 0x1_0000 * wide(key[2]) + 0x100_0000 * wide(key[3])
+    front_at(&key, 0)
+}
+
+// The eight bytes at byte `at` as one number.
+pub(crate) fn front_at(s: &[u8], at: usize) -> usize
+    requires { ⌜ at + 8 ≤ length (now s) ⌝ }
+    ensures { λ r. ⌜ r ≡ frontAt (now (s .entry)) at ⌝ }
+{
+    dword_at(s, at) + 0x1_0000_0000 * dword_at(s, at + 4)
 }

@@ -18,7 +18,7 @@ use Rattle.firmware.proofs.cpd.walk.Tie as tie
 
 -- the name bytes seen agree
 abbrev Inv-loop : tie.InvT-loop
-Inv-loop blob start count from key first i₀ at j₀ i j = (i ≡ i₀) × (4 ≤ j) × (j ≤ 12) × (Cpd.all (λ k. eqb (getD blob (at + k) 0) (getD key k 0)) j ≡ true)
+Inv-loop blob start count from key first i₀ at j₀ i j = (i ≡ i₀) × (8 ≤ j) × (j ≤ 12) × (Cpd.all (λ k. eqb (getD blob (at + k) 0) (getD key k 0)) j ≡ true)
 
 abbrev μ-loop : tie.MeasureT-loop
 μ-loop blob start count from key first i₀ at j₀ i j = 12 - j
@@ -40,7 +40,7 @@ entries-again c =
     let at-entries = c .before .before .before in
     let a = at-entries .before .before .before .args in
     passes _ (a .count) (at-entries .entries .i) (omega arith)
-    (front-differs (a .blob .now) (a .t5) _ (λ e. c .if2 .taken (c .before .dword-at .ensures .0 ∙ e ∙ sym (at-entries .before .front .ensures))))
+    (front-differs (a .blob .now) (a .t5) _ (λ e. c .if2 .taken (c .before .front-at .ensures ∙ e ∙ sym (at-entries .before .front .ensures))))
     (at-entries .entries .inv)
 
 loop-holds : tie.Need-loop-holds Inv-loop μ-loop Inv-entries μ-entries
@@ -53,7 +53,7 @@ loop-holds c =
       refl,
       omega arith,
       omega arith,
-      front-agrees (a .blob .now) (a .t5) _ bytes keys (sym (c .before .dword-at .ensures .0) ∙ c .if2 .left ∙ at-entries .before .front .ensures),
+      front-agrees (a .blob .now) (a .t5) _ bytes keys (sym (c .before .front-at .ensures) ∙ c .if2 .left ∙ at-entries .before .front .ensures),
     )
 
 entries-again-2 : tie.Need-entries-again-2 Inv-loop μ-loop Inv-entries μ-entries
