@@ -9,7 +9,7 @@ use lib.Dec.{eqb, leb, ltb}
 use borrow.Author.Tests.{eq-eqb, ne-eqb, lt-ltb, ltb-false, ltb-true, le-ltb, le-leb, lt-leb}
 use Rattle.firmware.specs.Bytes.{span, nowhere, placed}
 use Rattle.firmware.specs.Cpd
-use Rattle.firmware.specs.Private.{Keyed, tableOf, walked}
+use Rattle.firmware.specs.Private.{Keyed, entryJudged, partJudged, tableOf, walked}
 use Rattle.firmware.specs.declared.cpd.Table.{Table}
 use Rattle.firmware.proofs.Names.{keyed-walked}
 use Rattle.firmware.proofs.Count.{count-met, count-none}
@@ -31,44 +31,32 @@ module _ (b : List ℕ) {t : Table} (e : t ≡ tableOf b) where
   table-count z = let d : eqb (Cpd.directoryNumber b) 0 ≡ true = eq-eqb (Cpd.directoryNumber b) 0 (table-code ∙ z) in rw (e, d)
 
 -- an entry of a directory that is refused
-entry-refused : (b : List ℕ) (i : ℕ) → eqb (Cpd.directoryNumber b) 0 ≡ false → Cpd.entryLocated b i ≡ placed (Cpd.directoryNumber b) false nowhere
-unfolding Cpd.entryNumber Cpd.entryPlace
-entry-refused b i e = simp e
+entry-refused : (b : List ℕ) (i : ℕ) (shared : Bool) → eqb (Cpd.directoryNumber b) 0 ≡ false → entryJudged b i shared ≡ placed (Cpd.directoryNumber b) false nowhere
+unfolding entryJudged
+entry-refused b i shared e = simp e
 
 -- and a name in it
 name-refused : (b name : List ℕ) → Cpd.isName name ≡ true → eqb (Cpd.directoryNumber b) 0 ≡ false → Cpd.located b name ≡ placed (Cpd.directoryNumber b) false nowhere
 unfolding Cpd.number Cpd.place
 name-refused b name n e = simp (n, e)
 
-pub entry-own : (b : List ℕ) {t : Table} (e : t ≡ tableOf b) (i : ℕ) → (t .code ≡ 0 → ⊥) → Cpd.entryLocated b i ≡ placed (t .code) false nowhere
-entry-own b e i z =
+pub entry-own : (b : List ℕ) {t : Table} (e : t ≡ tableOf b) (i : ℕ) (shared : Bool) → (t .code ≡ 0 → ⊥) → entryJudged b i shared ≡ placed (t .code) false nowhere
+entry-own b e i shared z =
     let d = table-code b e in
-    entry-refused b i (ne-eqb (Cpd.directoryNumber b) 0 (λ q. z (sym d ∙ q))) ∙ rw d
+    entry-refused b i shared (ne-eqb (Cpd.directoryNumber b) 0 (λ q. z (sym d ∙ q))) ∙ rw d
 
 -- an entry of a directory that is accepted
-module _ (b : List ℕ) {t : Table} (e : t ≡ tableOf b) (z : t .code ≡ 0) (i : ℕ) where
+module _ (b : List ℕ) {t : Table} (e : t ≡ tableOf b) (z : t .code ≡ 0) (i : ℕ) (shared : Bool) where
   own : eqb (Cpd.directoryNumber b) 0 ≡ true
   own = eq-eqb (Cpd.directoryNumber b) 0 (table-code b e ∙ z)
 
-  pub entry-none : t .count ≤ i → Cpd.entryLocated b i ≡ placed 20 false nowhere
-  unfolding Cpd.entryNumber Cpd.entryPlace
+  pub entry-none : t .count ≤ i → entryJudged b i shared ≡ placed 20 false nowhere
+  unfolding entryJudged
   entry-none l = simp (own, table-count b e z, le-leb (t .count) i l)
 
-  module _ (l : i < t .count) (start len : ℕ) (o : start ≡ Cpd.offset b (t .start + 24 * i)) (s : len ≡ Cpd.size b (t .start + 24 * i)) where
-    pub entry-beyond : length b < start + len → Cpd.entryLocated b i ≡ placed 21 false nowhere
-    unfolding Cpd.entryNumber Cpd.entryPlace
-    entry-beyond g = simp (own, table-count b e z, table-start b e z, lt-leb (t .count) i l, ← o, ← s, lt-ltb (length b) (start + len) g)
-
-    pub entry-there : start + len ≤ length b → Cpd.entryLocated b i ≡ record { code = 0; truncated = false; start = start; len = len }
-    unfolding Cpd.entryNumber Cpd.entryPlace
-    entry-there g =
-        let d : start + len - start ≡ len = omega arith in
-        simp (own, table-count b e z, table-start b e z, lt-leb (t .count) i l, ← o, ← s, le-ltb (length b) (start + len) g, d)
-
--- a name that may be sought is its one entry's
-by-entry : (b name : List ℕ) → Cpd.entryNumber b (Cpd.firstEntry b name) ≡ Cpd.number b name → Cpd.entryLocated b (Cpd.firstEntry b name) ≡ Cpd.located b name
-unfolding Cpd.entryPlace Cpd.place
-by-entry b name e = rw e
+  pub entry-part : i < t .count → (start len : ℕ) → start ≡ Cpd.offset b (t .start + 24 * i) → len ≡ Cpd.size b (t .start + 24 * i) → entryJudged b i shared ≡ partJudged (length b) (span start (start + len)) shared
+  unfolding entryJudged partJudged
+  entry-part l start len o s = simp (own, table-count b e z, table-start b e z, lt-leb (t .count) i l, ← o, ← s)
 
 -- the walks for a name that may be sought
 module _ (b name key : List ℕ) {t : Table} (h : Keyed name key) (n : Cpd.isName name ≡ true) (e : t ≡ tableOf b) where
@@ -93,17 +81,17 @@ module _ (b name key : List ℕ) {t : Table} (h : Keyed name key) (n : Cpd.isNam
     unfolding Cpd.firstEntry
     first-is d = let z : Cpd.count b - 0 ≡ Cpd.count b = omega arith in w ∙ walked-entries d 0 ∙ rw z
 
-    by-number : (d : Bool) → eqb (Cpd.directoryNumber b) 0 ≡ d → t .count ≤ i → Cpd.entryLocated b i ≡ Cpd.located b name
-    unfolding Cpd.entryNumber Cpd.number Cpd.entriesNamed Cpd.firstEntry
-    by-number true d l =
+    by-number : (d : Bool) → eqb (Cpd.directoryNumber b) 0 ≡ d → t .count ≤ i → (shared : Bool) → entryJudged b i shared ≡ Cpd.located b name
+    unfolding entryJudged Cpd.number Cpd.place Cpd.entriesNamed Cpd.firstEntry
+    by-number true d l shared =
         let f : i ≡ Cpd.firstEntry b name = first-is d in
-        let g : Cpd.count b ≤ Cpd.firstEntry b name = omega (arith, entries-are d) in
-        let z : Cpd.entriesNamed b name ≡ 0 = count-none (Cpd.hasName b name) 0 (Cpd.count b) (omega arith) in
-        ap (Cpd.entryLocated b) f ∙ by-entry b name (simp (n, d, z, le-leb (Cpd.count b) (Cpd.firstEntry b name) g))
-    by-number false d l = entry-refused b i d ∙ sym (name-refused b name n d)
+        let g : Cpd.count b ≤ i = omega (arith, entries-are d) in
+        let z : Cpd.entriesNamed b name ≡ 0 = count-none (Cpd.hasName b name) 0 (Cpd.count b) (omega (arith, f, g)) in
+        simp (n, d, z, le-leb (Cpd.count b) i g)
+    by-number false d l shared = entry-refused b i shared d ∙ sym (name-refused b name n d)
 
     -- no entry has the name, or the directory is refused
-    named-none : t .count ≤ i → Cpd.entryLocated b i ≡ Cpd.located b name
+    named-none : t .count ≤ i → (shared : Bool) → entryJudged b i shared ≡ Cpd.located b name
     named-none = by-number (eqb (Cpd.directoryNumber b) 0) refl
 
     -- the second walk, from behind the entry found, comes to next
@@ -124,23 +112,24 @@ module _ (b name key : List ℕ) {t : Table} (h : Keyed name key) (n : Cpd.isNam
           let z : 0 + Cpd.count b ≡ Cpd.count b = omega arith in
           rw z at (count-met (Cpd.hasName b name) 0 (Cpd.count b) i (first-is accepted) (omega (arith, found)))
 
-      named-once : t .count ≤ next → Cpd.entryLocated b i ≡ Cpd.located b name
-      unfolding Cpd.entryNumber Cpd.number
+      there : leb (Cpd.count b) i ≡ false
+      there = lt-leb (Cpd.count b) i found
+
+      named-once : t .count ≤ next → entryJudged b i false ≡ Cpd.located b name
+      unfolding entryJudged Cpd.number Cpd.place
       named-once g =
           let z : Cpd.countFrom (Cpd.hasName b name) (i + 1) (Cpd.count b - (i + 1)) ≡ 0
           = count-none (Cpd.hasName b name) (i + 1) (Cpd.count b - (i + 1)) (omega (arith, next-is, found, entries-are accepted)) in
           let one : Cpd.entriesNamed b name ≡ 1 = omega (arith, named, z) in
-          let f : i ≡ Cpd.firstEntry b name = first-is accepted in
-          let k : leb (Cpd.count b) (Cpd.firstEntry b name) ≡ false = lt-leb (Cpd.count b) (Cpd.firstEntry b name) (omega (arith, f, found)) in
-          ap (Cpd.entryLocated b) f ∙ by-entry b name (simp (n, accepted, one, k))
+          simp (n, accepted, one, there, ← first-is accepted)
 
-      named-again : next < t .count → placed 22 false nowhere ≡ Cpd.located b name
-      unfolding Cpd.number Cpd.place
+      named-again : next < t .count → entryJudged b i true ≡ Cpd.located b name
+      unfolding entryJudged Cpd.number Cpd.place
       named-again g =
           let more = count-met (Cpd.hasName b name) (i + 1) (Cpd.count b - (i + 1)) next next-is (omega (arith, found, entries-are accepted)) in
           let some : eqb (Cpd.entriesNamed b name) 0 ≡ false = ne-eqb (Cpd.entriesNamed b name) 0 (λ q. absurd (omega (arith, named, q))) in
           let two : ltb 1 (Cpd.entriesNamed b name) ≡ true = lt-ltb 1 (Cpd.entriesNamed b name) (omega (arith, named, more)) in
-          simp (n, accepted, some, two)
+          simp (n, accepted, some, two, there)
 
 -- a walk from the first entry on ends behind the last one at most
 pub walk-ends : (b key : List ℕ) (start count : ℕ) {i : ℕ} → i ≡ walked b key start count 0 → i ≤ count
@@ -152,17 +141,17 @@ walk-ends b key start count w =
 -- what the two walks say of the name
 module _ (b name key : List ℕ) {t : Table} (h : Keyed name key) (n : Cpd.isName name ≡ true) (e : t ≡ tableOf b) where
   module _ {i next : ℕ} (w : i ≡ walked b key (t .start) (t .count) 0) (v : next ≡ walked b key (t .start) (t .count) (i + 1)) where
-    pub named-twice : next < t .count → placed 22 false nowhere ≡ Cpd.located b name
+    pub named-twice : next < t .count → entryJudged b i true ≡ Cpd.located b name
     unfolding walked
     named-twice g =
         let f = first-within (λ k. Cpd.agrees b key (t .start + 24 * k)) (i + 1) (t .count - (i + 1)) in
         named-again b name key h n e w (omega (arith, v, f .0)) v g
 
-    pub named-once-at-most : t .count ≤ next → Cpd.entryLocated b i ≡ Cpd.located b name
+    pub named-once-at-most : t .count ≤ next → entryJudged b i false ≡ Cpd.located b name
     named-once-at-most g =
         cases (ltb i (t .count))
         (λ l. named-once b name key h n e w (ltb-true i (t .count) l) v g)
-        (λ l. named-none b name key h n e w (ltb-false i (t .count) l))
+        (λ l. named-none b name key h n e w (ltb-false i (t .count) l) false)
 
 -- a walk over entry i alone
 one-alone : (p : ℕ → Bool) (i : ℕ) → eqb (Cpd.firstFrom p i (i + 1 - i)) i ≡ p i
@@ -196,9 +185,9 @@ module _ (b name : List ℕ) {t : Table} (e : t ≡ tableOf b) (i : ℕ) where
         simp (n, entries-of, lt-ltb i (t .count) l) found
 
 -- the place of entry i's name, where there is such an entry and where there is none
-there : (t : Bool) (x y i : ℕ) → i < cond t y 0 → cond (ltb i (cond t y 0)) (span (x + 24 * i) (x + 24 * i + 12)) nowhere ≡ span (cond t x 0 + 24 * i) (cond t x 0 + 24 * i + 12)
-there true x y i l = simp (lt-ltb i y l)
-there false x y i l = absurd (omega arith)
+name-at : (t : Bool) (x y i : ℕ) → i < cond t y 0 → cond (ltb i (cond t y 0)) (span (x + 24 * i) (x + 24 * i + 12)) nowhere ≡ span (cond t x 0 + 24 * i) (cond t x 0 + 24 * i + 12)
+name-at true x y i l = simp (lt-ltb i y l)
+name-at false x y i l = absurd (omega arith)
 
 module _ (b : List ℕ) (i : ℕ) {t : Table} (e : t ≡ tableOf b) where
   pub name-none : t .count ≤ i → Cpd.namePlace b i ≡ nowhere
@@ -207,4 +196,4 @@ module _ (b : List ℕ) (i : ℕ) {t : Table} (e : t ≡ tableOf b) where
 
   pub name-there : i < t .count → Cpd.namePlace b i ≡ span (t .start + 24 * i) (t .start + 24 * i + 12)
   unfolding Cpd.namePlace Cpd.entriesOf tableOf
-  name-there l = rw e (there (eqb (Cpd.directoryNumber b) 0) (Cpd.headerLength b) (Cpd.count b) i (rw e at l))
+  name-there l = rw e (name-at (eqb (Cpd.directoryNumber b) 0) (Cpd.headerLength b) (Cpd.count b) i (rw e at l))

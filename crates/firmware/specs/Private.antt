@@ -1,11 +1,11 @@
 -- What the crate's private functions answer, in the definitions of Css, Cpd and Version. No public contract cites these.
 use Prim.Native.Nat.{ℕ, _+_, _-_, _*_, _<_, _^_}
 use mathlib.Core.Path.{_≡_}
-use mathlib.Core.Bool.{Bool, cond}
+use mathlib.Core.Bool.{Bool, false, cond}
 use mathlib.Core.List.{List}
 use lib.ListN.{length, getD}
-use lib.Dec.{eqb, ltb}
-use Rattle.firmware.specs.Bytes.{dwordAt}
+use lib.Dec.{eqb, leb, ltb}
+use Rattle.firmware.specs.Bytes.{Span, dwordAt, nowhere, placed, then}
 use Rattle.firmware.specs.Css
 use Rattle.firmware.specs.Cpd
 use Rattle.firmware.specs.Version.{Reading, reading, manifestVersion}
@@ -53,6 +53,18 @@ tableOf b = record {
   start = cond (eqb (Cpd.directoryNumber b) 0) (Cpd.headerLength b) 0;
   count = cond (eqb (Cpd.directoryNumber b) 0) (Cpd.count b) 0;
 }
+
+-- a part of a blob of n bytes, said to be shared or not: 22, then 21
+unfoldable pub partJudged : ℕ → Span → Bool → Located
+partJudged n p shared =
+    let k : ℕ = cond shared 22 (cond (ltb n (p .to)) 21 0) in
+    placed k false (cond (eqb k 0) p nowhere)
+
+-- entry i, said to share its name or not
+unfoldable pub entryJudged : List ℕ → ℕ → Bool → Located
+entryJudged b i shared =
+    let k : ℕ = then (Cpd.directoryNumber b) (cond (leb (Cpd.count b) i) 20 (cond shared 22 (Cpd.partNumber b i))) in
+    placed k false (cond (eqb k 0) (Cpd.entryPart b (Cpd.entryStart b i)) nowhere)
 
 -- of count entries from byte start, the first from entry `from` on that has the name, or where there is none the one behind them (from, where that is behind
 -- them already)

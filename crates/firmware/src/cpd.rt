@@ -1,10 +1,10 @@
 // HuC code partition directories (CPD): an entry by its name or its index, and its part of the lent blob.
 ghost use mathlib.Core.Path.{_≡_};
-ghost use Prim.Native.Nat.{_+_, _*_, _≤_};
+ghost use Prim.Native.Nat.{_+_, _*_, _≤_, _<_, _^_};
 ghost use lib.ListN.{length};
-ghost use Rattle.firmware.specs.Bytes.{PartOf};
+ghost use Rattle.firmware.specs.Bytes.{PartOf, span};
 ghost use Rattle.firmware.specs.Cpd;
-ghost use Rattle.firmware.specs.Private.{tableOf, walked};
+ghost use Rattle.firmware.specs.Private.{entryJudged, partJudged, tableOf, walked};
 use crate::bytes::Located;
 use crate::bytes::dword_at;
 use crate::bytes::part;
@@ -114,10 +114,30 @@ fn walk(blob: &[u8], start: usize, count: usize, from: usize, key: [u8; NAME_BYT
     }
 }
 
-// Entry i of a judged directory: its offset and length are read once, and those are what is judged and handed out.
-fn entry_located(blob: &[u8], t: Table, i: usize) -> Located
+// A part of a blob of n bytes, where an entry says that it lies: 22 where another entry shares the name sought, tested before 21.
+fn part_located(n: usize, start: usize, len: usize, shared: bool) -> Located
+    requires { ⌜ start + len < 2 ^ 64 ⌝ }
+    ensures { λ r. ⌜ r ≡ partJudged n (span start (start + len)) shared ⌝ }
+{
+    let end = start + len;
+    if shared {
+        return refused(refusal::DUPLICATE_ENTRY);
+    }
+    if n < end {
+        return refused(refusal::CPD_BEYOND);
+    }
+    Located {
+        code: 0,
+        truncated: false,
+        start,
+        len,
+    }
+}
+
+// Entry i of a judged directory, and whether another entry shares its name: its offset and length are read once, and those are what is judged and handed out.
+fn entry_located(blob: &[u8], t: Table, i: usize, shared: bool) -> Located
     requires { ⌜ t ≡ tableOf (now blob) ⌝ }
-    ensures { λ r. ⌜ r ≡ Cpd.entryLocated (now (blob .entry)) i ⌝ }
+    ensures { λ r. ⌜ r ≡ entryJudged (now (blob .entry)) i shared ⌝ }
 {
     let code = t.code;
     if code != 0 {
@@ -129,15 +149,7 @@ fn entry_located(blob: &[u8], t: Table, i: usize) -> Located
     let at = t.start + ENTRY_BYTES * i;
     let start = dword_at(blob, at + OFFSET_AT) % OFFSET_LIMIT;
     let len = dword_at(blob, at + LENGTH_AT);
-    if blob.len() < start + len {
-        return refused(refusal::CPD_BEYOND);
-    }
-    Located {
-        code: 0,
-        truncated: false,
-        start,
-        len,
-    }
+    part_located(blob.len(), start, len, shared)
 }
 
 // The one judgement of a name sought in a directory: its number, and where its part lies. The second walk goes on behind the entry found, so each entry's
@@ -150,12 +162,11 @@ pub fn cpd_located(blob: &[u8], name: &[u8]) -> Located
         return refused(refusal::BAD_FIELD);
     }
     let t = read_table(blob);
-    let i = walk(blob, t.start, t.count, 0, key);
-    let next = walk(blob, t.start, t.count, i + 1, key);
-    if next < t.count {
-        return refused(refusal::DUPLICATE_ENTRY);
-    }
-    entry_located(blob, t, i)
+    let count = t.count;
+    let i = walk(blob, t.start, count, 0, key);
+    let behind = i + 1;
+    let next = walk(blob, t.start, count, behind, key);
+    entry_located(blob, t, i, next < count)
 }
 
 // Entry i by its index, for a list of all entries: 20 where there is none. Also entries that share a name, which a seek refuses, have a part each.
@@ -163,7 +174,7 @@ pub fn cpd_entry(blob: &[u8], i: usize) -> Located
     ensures { λ r. ⌜ r ≡ Cpd.entryLocated (now (blob .entry)) i ⌝ }
 {
     let t = read_table(blob);
-    entry_located(blob, t, i)
+    entry_located(blob, t, i, false)
 }
 
 // 0 or the number that refuses seeking that name.
