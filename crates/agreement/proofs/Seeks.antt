@@ -222,17 +222,17 @@ module _ (b name : List ℕ) where
       (zero-count has (Cpd.count b) (λ i l t. x .none i l (has-name i t)))
 
   pub shared-is : Cpd.number b name ≡ 22 → SharedName b name
-  unfolding Cpd.entriesNamed
+  unfolding Cpd.entriesNamed Cpd.firstEntry
   shared-is z =
       let j = judged-name 22 (omega arith) z in
       by-count 22 (j .answers) (λ _ e. absurd (omega (arith, e)))
       (λ k _.
       let f = count-two has (Cpd.count b) k in
       record {
-        i = _;
-        j = _;
-        apart = f .0;
-        entry-i = entry-named (j .is-name) (j .passes) _ (omega (arith, f .0, f .1)) (f .2);
+        i = at;
+        j = Cpd.firstFrom has (at + 1) (Cpd.count b - (at + 1));
+        apart = omega (arith, f .0);
+        entry-i = entry-named (j .is-name) (j .passes) at (omega (arith, f .0, f .1)) (f .2);
         entry-j = entry-named (j .is-name) (j .passes) _ (f .1) (f .3);
       })
       (λ _ e. absurd (part-number 22 e (λ q. absurd (omega (arith, q))) (λ q. absurd (omega (arith, q)))))

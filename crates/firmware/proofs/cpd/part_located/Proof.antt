@@ -1,11 +1,10 @@
 -- `cpd::part_located` meets its contract: by whether the name is shared, then by whether the part lies beyond. Assumes nothing.
-use Prim.Native.Nat.{_+_, _-_, _≤_, _<_}
+use Prim.Native.Nat.{_+_, _-_}
 use mathlib.Core.Path.{_≡_, sym, _∙_}
 use mathlib.Core.Bool.{Bool, true, false}
 use native.Mathlib.Omega.{arith}
 use borrow.Author.Tests.{lt-ltb, le-ltb}
 use borrow.Author.Needs.{needs}
-use Rattle.firmware.specs.Bytes.{span}
 use Rattle.firmware.specs.Private.{partJudged}
 use Rattle.firmware.proofs.Tests.{cases, true-false}
 use Rattle.firmware.proofs.cpd.part_located.Statement.{statement}
