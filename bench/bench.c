@@ -14,7 +14,7 @@ static uint32_t msgs[8][256] __attribute__((aligned(64)));
 static uint32_t out[256] __attribute__((aligned(64)));
 static uint32_t sw[260] __attribute__((aligned(64))), rw[260] __attribute__((aligned(64)));
 static uint8_t image[IMAGE] __attribute__((aligned(4096))), room[IMAGE] __attribute__((aligned(4096)));
-static uint8_t few[20 + 24 * 16 + 64], many[20 + 24 * 4096 + 64]; // directories: entries and one part
+static uint8_t few[20 + 24 * 16 + 64], many[20 + 24 * 4096 + 64], alike[20 + 24 * 4096 + 64]; // directories: entries and one part
 static struct ring tx, rx;
 static size_t N, L;
 
@@ -92,15 +92,17 @@ static uint32_t entry_part(size_t bytes, uint32_t code, size_t start, size_t len
 {
     return code | (start ^ (bytes - 64)) | (len ^ 64);
 }
-static const uint8_t huc_fw[] = "huc_fw"; // six bytes are the name
-static uint32_t guc_find(const uint8_t *d, size_t bytes)
+// Their names, and the other entries': apart in their fifth byte, and alike in all but the last of twelve.
+static const char few_name[] = "huc_fw", many_name[] = "huc_fw", alike_name[] = "huc_firmware";
+static const char few_others[] = "huc_xx", many_others[] = "huc_xx", alike_others[] = "huc_firmwarx";
+static uint32_t guc_find(const uint8_t *d, size_t bytes, const char *name, size_t n)
 {
-    struct guc_part p = guc_cpd_part(d, bytes, huc_fw, 6);
+    struct guc_part p = guc_cpd_part(d, bytes, (const uint8_t *)name, n);
     return entry_part(bytes, p.code, p.start, p.len);
 }
 #define READER(s) \
-    static uint32_t find_##s(const uint8_t *d, size_t bytes) { \
-        size_t at = 0, n = 0; uint32_t c = cpd_find_##s(d, bytes, huc_fw, 6, &at, &n); \
+    static uint32_t find_##s(const uint8_t *d, size_t bytes, const char *name, size_t k) { \
+        size_t at = 0, n = 0; uint32_t c = cpd_find_##s(d, bytes, (const uint8_t *)name, k, &at, &n); \
         return entry_part(bytes, c, at, n); } \
     static uint32_t read_##s(void) { struct css_parts p; uint32_t c = css_read_##s(image, IMAGE, &p); \
         return image_parts(c, p.truncated, p.ucode_start, p.ucode_len); } \
@@ -110,8 +112,9 @@ READER(inl)
 READER(lib)
 EACH(fw_guc_two, guc_two()) EACH(fw_guc_one, guc_one()) EACH(fw_read_inl, read_inl()) EACH(fw_read_lib, read_lib())
 EACH(fw_guc_copy, guc_copy()) EACH(fw_copy_inl, copy_inl()) EACH(fw_copy_lib, copy_lib())
-#define FIND(d) EACH(d##_guc, guc_find(d, sizeof d)) EACH(d##_inl, find_inl(d, sizeof d)) EACH(d##_lib, find_lib(d, sizeof d))
-FIND(few) FIND(many)
+#define NAMED(d) d, sizeof d, d##_name, sizeof d##_name - 1
+#define FIND(d) EACH(d##_guc, guc_find(NAMED(d))) EACH(d##_inl, find_inl(NAMED(d))) EACH(d##_lib, find_lib(NAMED(d)))
+FIND(few) FIND(many) FIND(alike)
 
 typedef uint32_t (*block)(size_t);
 #define V(v) {#v, v##_send_block, v##_receive_block, v##_turn_block, v##_check_block}
@@ -122,6 +125,7 @@ static const struct firmware { const char *what, *name; block run; size_t k; } f
     {"locate", "guc", fw_guc_one, 4000}, {"locate", "runs_inl", fw_read_inl, 4000}, {"locate", "runs_lib", fw_read_lib, 4000},
     {"few", "guc", few_guc, 1000}, {"few", "runs_inl", few_inl, 1000}, {"few", "runs_lib", few_lib, 1000},
     {"many", "guc", many_guc, 50}, {"many", "runs_inl", many_inl, 50}, {"many", "runs_lib", many_lib, 50},
+    {"alike", "guc", alike_guc, 50}, {"alike", "runs_inl", alike_inl, 50}, {"alike", "runs_lib", alike_lib, 50},
     {"copy", "guc", fw_guc_copy, 2}, {"copy", "runs_inl", fw_copy_inl, 2}, {"copy", "runs_lib", fw_copy_lib, 2}};
 enum { VARIANTS = sizeof variants / sizeof *variants, FIRMWARE = sizeof firmware / sizeof *firmware };
 
@@ -157,7 +161,7 @@ static void fresh_image(void)
     uint32_t words[] = {161, IMAGE / 4, 64, 64, 1}, at[] = {4, 24, 28, 32, 36};
     for (int j = 0; j < 5; j++) put(image + at[j], words[j]);
 }
-static void fresh_directory(uint8_t *d, size_t bytes)
+static void fresh_directory(uint8_t *d, size_t bytes, const char *name, size_t length, const char *others)
 {
     uint32_t n = (bytes - 20 - 64) / 24;
     memcpy(d, "$CPD", 4);
@@ -165,7 +169,7 @@ static void fresh_directory(uint8_t *d, size_t bytes)
     d[10] = 20;
     for (uint32_t j = 0; j < n; j++) {
         uint8_t *e = d + 20 + 24 * j;
-        memcpy(e, j == n - 1 ? huc_fw : (const uint8_t *)"huc_xx", 6);
+        memcpy(e, j == n - 1 ? name : others, length);
         put(e + 12, bytes - 64);
         put(e + 16, 64);
     }
@@ -268,8 +272,9 @@ static void count_all(void)
 int main(int argc, char **argv)
 {
     fresh_image();
-    fresh_directory(few, sizeof few);
-    fresh_directory(many, sizeof many);
+    fresh_directory(NAMED(few), few_others);
+    fresh_directory(NAMED(many), many_others);
+    fresh_directory(NAMED(alike), alike_others);
     if (argc == 2 && !strcmp(argv[1], "time")) time_all();
     else if (argc == 2 && !strcmp(argv[1], "count")) count_all();
     else { fputs("usage: bench time | count\n", stderr); return 2; }

@@ -17,7 +17,8 @@ COLUMNS = [('guc', 'libguc'), ('wrap_inl', '(a)'), ('wrap_lib', "(a) call"), ('r
            ('runs_lib', '(b) call'), ('plain', '(c)')]
 WORDS = {'send': 'send', 'receive': 'receive', 'turn': 'send, then receive', 'judge': 'image: judge, find uCode (two calls)',
          'locate': 'image: find uCode (one call)', 'copy': 'image: copy uCode out',
-         'few': 'directory: find the last of 16 entries', 'many': 'directory: find the last of 4,096 entries'}
+         'few': 'directory: find the last of 16 entries', 'many': 'directory: find the last of 4,096 entries',
+         'alike': 'directory: the same, names alike in eleven bytes'}
 
 
 def cell(key, base):
@@ -47,7 +48,7 @@ for what in ('send', 'receive', 'turn'):
 for what in ('send', 'receive', 'turn'):
     for n in (1024, 16384):
         row(what, n, 16, 'steps', WORDS[what] + ' in steps')
-for what in ('judge', 'locate', 'copy', 'few', 'many'):
+for what in ('judge', 'locate', 'copy', 'few', 'many', 'alike'):
     row(what, 0, 0)
 print()
 for what in ('send', 'receive'):

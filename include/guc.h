@@ -401,8 +401,8 @@ struct guc_version guc_css_version(const uint8_t *blob, size_t len);
 /*
  * Where the part of a code partition directory lies whose entry has this name.
  * The name has 1 to 12 bytes and no zero among them. A name that more than one
- * entry has is refused by 22, also where the entries are alike or their parts lie
- * beyond the blob: every entry is walked.
+ * entry has is refused by 22, wherever they stand, also where the entries are
+ * alike or their parts lie beyond the blob.
  * Answers 0, 14, 15, 18, 19, 20, 22 or 21.
  */
 struct guc_part guc_cpd_part(const uint8_t *blob, size_t len,

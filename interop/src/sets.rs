@@ -9,7 +9,7 @@ pub enum Set {
     NameBit,
     ManifestBit,
     HucBit,
-    // Of the next, all but `TwiceLength` have their members for each of `SOUGHT`.
+    // `LaterBit`, `Once` and `Twice` have their members for each of `SOUGHT`.
     LaterBit,
     Once,
     Twice,

@@ -1,4 +1,4 @@
--- Code partition directories agree with document 01. Assumes nothing.
+-- Code partition directories agree with documents 01 and 02. Assumes nothing.
 use Prim.Native.Nat.{ℕ, _+_, _-_, _<_}
 use mathlib.Core.Path.{_≡_, refl, sym, ap, _∙_}
 use mathlib.Core.Logic.{_↔_}

@@ -40,13 +40,13 @@ fn version(v: Version) {
     }
 }
 
-// Why an image is refused, in the figures of the images here.
+// Why an image is refused, in the figures of the images here; 22 is of the directory that it lies in.
 fn refusal(code: u32) {
     number(b": REFUSED, rule ", code as usize);
     match code {
         16 => text(b": h is not 32 + k + m + e = 35"),
         17 => text(b": 128 + 4(s - h) + 4k = 152 bytes must be there"),
-        22 => text(b": which file of that name is meant, nobody can say"),
+        22 => text(b": not judged, since two entries have that name"),
         _ => (),
     }
 }
@@ -116,12 +116,12 @@ fn sought(blob: &[u8], name: &[u8]) {
         part(b": accepted,", l);
     } else {
         number(b": REFUSED, rule ", code as usize);
-        not_found(code, blob, name);
+        seek_refusal(code, blob, name);
     }
 }
 
-// Why a name is not found.
-fn not_found(code: u32, blob: &[u8], name: &[u8]) {
+// Why seeking a name is refused.
+fn seek_refusal(code: u32, blob: &[u8], name: &[u8]) {
     match code {
         20 => text(b": no entry has that name; a name's beginning is no match"),
         22 => {
@@ -129,8 +129,9 @@ fn not_found(code: u32, blob: &[u8], name: &[u8]) {
             sharer(b": entry ", blob, 0, name);
             sharer(b" and entry ", blob, 1, name);
             text(
-                b"\n    Ask the supplier which of them is meant, and for a file in which only that one has it",
+                b"\n    Ask the supplier which of them is meant, and for a file in which only that one is named ",
             );
+            text(name);
         }
         _ => (),
     }
@@ -163,7 +164,7 @@ fn manifest(v: ManifestVersion) {
 
 // The image that a directory has under huc_fw.
 fn image_inside(blob: &[u8]) {
-    text(b"  huc_fw is judged as an image of its own");
+    text(b"  The image in huc_fw, as a file of its own");
     verdict(firmware::huc_answer(blob), firmware::huc_version(blob));
     component_inside(b"uCode", blob, Component::Ucode, b", ");
     component_inside(b"RSA", blob, Component::Rsa, b", ");

@@ -39,6 +39,6 @@ fn foreword() {
         b"In the picture a character is 16 places: # some are used, . all are free. H marks the head, T the tail, X both.\n",
     );
     text(
-        b"STATUS 0 is good. A refusal names its rule in document 01. The library under it is proved to meet its contracts.\n",
+        b"STATUS 0 is good. A refusal names its rule in documents 01 and 02. The library under it is proved to meet its contracts.\n",
     );
 }

@@ -18,7 +18,7 @@ unfoldable pub firstFrom : (ℕ → Bool) → ℕ → ℕ → ℕ
 firstFrom p i zero = i
 firstFrom p i (suc n) = cond (p i) i (firstFrom p (suc i) n)
 
--- how many of the n numbers from i on p holds of
+-- of how many of the n numbers from i on p holds
 unfoldable pub countFrom : (ℕ → Bool) → ℕ → ℕ → ℕ
 countFrom p i zero = 0
 countFrom p i (suc n) = cond (p i) 1 0 + countFrom p (suc i) n
@@ -69,7 +69,8 @@ agrees b name at = all (λ j. eqb (getD b (at + j) 0) (getD name j 0)) 12
 abbrev pub hasName : List ℕ → List ℕ → ℕ → Bool
 hasName b name i = agrees b name (entryStart b i)
 
--- the first entry that has the name: its index, or n where there is none. A seek answers it only where it is the only one
+-- 'The walk ends at the first entry whose twelve bytes agree.': its index, or n where there is none. Since T-03 the walk goes on, so that a seek answers it only where
+-- it is the only one
 unfoldable pub firstEntry : List ℕ → List ℕ → ℕ
 firstEntry b name = firstFrom (hasName b name) 0 (count b)
 

@@ -54,7 +54,7 @@ tableOf b = record {
   count = cond (eqb (Cpd.directoryNumber b) 0) (Cpd.count b) 0;
 }
 
--- a part of a blob of n bytes, said to be shared or not: 22, then 21
+-- a part of a blob of n bytes, of an entry whose name is said to be shared or not: 22, then 21
 unfoldable pub partJudged : ℕ → Span → Bool → Located
 partJudged n p shared =
     let k : ℕ = cond shared 22 (cond (ltb n (p .to)) 21 0) in

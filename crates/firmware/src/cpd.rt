@@ -10,6 +10,7 @@ use crate::bytes::dword_at;
 use crate::bytes::part;
 use crate::bytes::refused;
 use crate::bytes::wide;
+use crate::name::FRONT_BYTES;
 use crate::name::NAME_BYTES;
 use crate::name::front;
 use crate::name::front_at;
@@ -87,8 +88,8 @@ fn read_table(blob: &[u8]) -> Table
     }
 }
 
-// Of `count` entries from byte `start`, the index of the first from entry `from` on whose twelve bytes are the key's; where there is none, the index behind
-// them. Each byte of a name is read once: the first eight as one number, which most entries fail, then one after another.
+// Of `count` entries from byte `start`, the index of the first from entry `from` on whose twelve bytes are the key's; where there is none, an index not below
+// `count`. Each byte of a name is read once: the first eight as one number, which most entries fail, then one after another.
 fn walk(blob: &[u8], start: usize, count: usize, from: usize, key: [u8; NAME_BYTES]) -> usize
     requires { ⌜ start + 24 * count ≤ length (now blob) ⌝ }
     ensures { λ r. ⌜ r ≡ walked (now (blob .entry)) key start count from ⌝ }
@@ -104,7 +105,7 @@ fn walk(blob: &[u8], start: usize, count: usize, from: usize, key: [u8; NAME_BYT
             i += 1;
             continue 'entries;
         }
-        for j in 8..NAME_BYTES {
+        for j in FRONT_BYTES..NAME_BYTES {
             if blob[at + j] != key[j] {
                 i += 1;
                 continue 'entries;
@@ -134,7 +135,8 @@ fn part_located(n: usize, start: usize, len: usize, shared: bool) -> Located
     }
 }
 
-// Entry i of a judged directory, and whether another entry shares its name: its offset and length are read once, and those are what is judged and handed out.
+// Entry i of a judged directory, told whether another entry has the name sought too. Its offset and length are read once, and those are what is judged and
+// handed out.
 fn entry_located(blob: &[u8], t: Table, i: usize, shared: bool) -> Located
     requires { ⌜ t ≡ tableOf (now blob) ⌝ }
     ensures { λ r. ⌜ r ≡ entryJudged (now (blob .entry)) i shared ⌝ }
@@ -169,7 +171,7 @@ pub fn cpd_located(blob: &[u8], name: &[u8]) -> Located
     entry_located(blob, t, i, next < count)
 }
 
-// Entry i by its index, for a list of all entries: 20 where there is none. Also entries that share a name, which a seek refuses, have a part each.
+// Entry i by its index, for a list of all entries: 20 where there is none. Entries that share a name are told apart by their index; a seek of it is refused.
 pub fn cpd_entry(blob: &[u8], i: usize) -> Located
     ensures { λ r. ⌜ r ≡ Cpd.entryLocated (now (blob .entry)) i ⌝ }
 {

@@ -8,6 +8,9 @@ use crate::bytes::dword_at;
 // 'name 12 bytes (zero padded)'
 pub(crate) const NAME_BYTES: usize = 12;
 
+// As many of them, the front, are compared as one number.
+pub(crate) const FRONT_BYTES: usize = 8;
+
 // Byte j of a name, zero padded.
 fn padded(name: &[u8], j: usize) -> u8
     ensures { λ r. ⌜ r ≡ getD (now (name .entry)) j 0 ⌝ }
@@ -44,14 +47,14 @@ pub(crate) fn is_name(key: [u8; NAME_BYTES], len: usize) -> bool
     true
 }
 
-// The key's first eight bytes as one number.
+// The front of a key as one number.
 pub(crate) fn front(key: [u8; NAME_BYTES]) -> usize
     ensures { λ r. ⌜ r ≡ frontAt key 0 ⌝ }
 {
     front_at(&key, 0)
 }
 
-// The eight bytes at byte `at` as one number.
+// The front of a name that starts at byte `at`, as one number.
 pub(crate) fn front_at(s: &[u8], at: usize) -> usize
     requires { ⌜ at + 8 ≤ length (now s) ⌝ }
     ensures { λ r. ⌜ r ≡ frontAt (now (s .entry)) at ⌝ }

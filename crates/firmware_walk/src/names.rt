@@ -20,6 +20,7 @@ pub(crate) fn found_or_not() {
     seek(&blob, 100, b"huc_fwx");
     seek(&blob, 100, b"HUC_FW");
     seek(&blob, 100, b"HUCP.man");
+    text(b"\nNames that begin alike, and one name twice\n");
     longer_first();
     same_twice();
 }

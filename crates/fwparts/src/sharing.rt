@@ -2,7 +2,7 @@
 use crate::wording::number;
 use crate::wording::text;
 
-// As many entries are named; of more the count is said.
+// At most so many are named; of more it is said how many there are.
 const NAMED_MOST: usize = 8;
 
 // Names entry i where it has the name, as the library says, unless enough are named already; answers how many have it so far. A count of entries does not

@@ -122,8 +122,8 @@ impl<'a> Walk<'a> {
         }
     }
 
-    /// Whether two of the others share a name; of large directories it is not
-    /// asked.
+    /// Whether two of the others share a name; of large directories their first
+    /// 1,000 entries are asked.
     fn others_twice(&self) -> bool {
         let mut names: Vec<&[u8]> = self.entries.iter().take(1000).map(|e| &e[..12]).collect();
         names.sort_unstable();
