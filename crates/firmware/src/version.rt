@@ -79,9 +79,9 @@ pub fn manifest_version(blob: &[u8]) -> ManifestVersion
     ensures { λ r. ⌜ ofManifest r ≡ manifestReading (now (blob .entry)) ⌝ }
 {
     let f = cpd_located(blob, b"HUCP.man");
-    let code = f.code;
-    if code != 0 {
-        return ManifestVersion::Refused(code);
+    let number = f.code;
+    if number != 0 {
+        return ManifestVersion::Refused(number);
     }
     let start = f.start;
     let end = start + f.len;
