@@ -1,3 +1,4 @@
 pub mod Offsets
 pub mod Ring
 pub mod Straight
+pub mod TwoRuns

@@ -2,17 +2,17 @@
 use Prim.Native.Nat.{ℕ, zero, suc, _+_, _-_, _%_, _≤_, _<_}
 use mathlib.Core.Path.{_≡_, refl, sym, ap, _∙_}
 use mathlib.Core.List.{List, [], _∷_, _++_, append-assoc, append-nil}
-use native.Mathlib.Nat.{sub-zero, zero-sub, suc-sub-suc, zero-mod, mod-self, mod-mod, mod-eq-of-lt, suc-mod}
+use native.Mathlib.Nat.{sub-zero, zero-sub, suc-sub-suc, zero-mod, mod-self, mod-eq-of-lt, suc-mod}
 use native.Mathlib.Numerals.{add-one}
 use native.Mathlib.Omega.{arith}
-use lib.ListN.{length, getD, set, take, drop, replicate, drop-of-length-le, take-append-drop, length-append, length-set, length-drop, length-take}
-use lib.Seq.{take-all, take-at, take-suc, drop-cons, drop-drop, drop-append-le, append-snoc, set-at, length-take-le, sets, sets-eq}
+use lib.ListN.{length, getD, set, take, drop, replicate, drop-of-length-le, take-append-drop, length-drop, length-take}
+use lib.Seq.{take-all, take-suc, drop-cons, drop-drop, drop-append-le, append-snoc, set-at, length-take-le, sets, sets-eq}
 use borrow.Author.Tests.{le-leb, lt-leb, le-ltb, lt-ltb}
 use borrow.Rule.Slice.PartMut.{midOf, putMid}
 use lib.Dec.{ltb}
 use Rattle.message.proofs.Tests.{cases}
 use Rattle.runs.specs.Buffer.{window, stored, storedAt, laid, laidFrom}
-use Rattle.runs.proofs.Ring.{window-append, window-length, window-mod, stored-length}
+use Rattle.runs.proofs.Ring.{window-append, window-mod}
 
 -- a turn of the loop that copies src to the front of dst
 pub copied-more : (dst src : List ℕ) (i : ℕ) → i < length src → i < length dst → set (take i src ++ drop i dst) i (getD src i 0) ≡ take (i + 1) src ++ drop (i + 1) dst
@@ -72,19 +72,6 @@ stored-around b n i k xs e h =
     let l : length (take k xs) ≡ k = length-take-le k xs h in
     ap (stored b n i) (sym (take-append-drop k xs)) ∙ stored-append b n i (take k xs) (drop k xs) ∙ stored-mod _ n _ 0 (drop k xs) (around n _ (omega arith))
 
--- the buffer after a run of k dwords in the places from i on
-pub stored-run : (b : List ℕ) (i k : ℕ) (xs : List ℕ) → length xs ≡ k → i + k ≤ length b → putMid i k b xs ≡ stored b (length b) i xs
-stored-run b i k xs l h = rw (drop-drop, ← l) (sym (stored-straight b (length b) i xs (omega arith) (omega arith)))
-
--- the buffer m after the k dwords up to the end, and then the others from its front
-pub stored-second :
-    (b m : List ℕ) (i k j : ℕ) (xs ys : List ℕ) → i + k ≡ length b → k ≤ length xs → length xs ≤ length b → k + j ≡ length xs
-    → m ≡ stored b (length b) i (take k xs) → ys ≡ drop k xs → putMid 0 j m ys ≡ stored b (length b) i xs
-stored-second b m i k j xs ys e h l q w v =
-    let z : length ys ≡ j = ap length v ∙ length-drop k xs ∙ omega arith in
-    let s : length m ≡ length b = ap length w ∙ stored-length b (length b) i (take k xs) in
-    stored-run m 0 j ys z (omega arith) ∙ rw (s, v, w) (sym (stored-around b (length b) i k xs e h))
-
 -- the buffer after one dword
 pub stored-single : (b : List ℕ) (i h : ℕ) → i < length b → set b i h ≡ stored b (length b) i (h ∷ [])
 unfolding stored
@@ -110,27 +97,6 @@ module _ (b : List ℕ) (at : ℕ) (xs : List ℕ) where
   unfolding storedAt
   stored-long h = cases (ltb at (length b)) (λ a. rw (a, lt-leb (length xs) (length b) h)) (λ a. rw a)
 
--- a message's first dwords and its others
-pub take-two : (h w : ℕ) (r : List ℕ) (k f : ℕ) → k ≡ 2 + f → take k (h ∷ w ∷ r) ≡ h ∷ w ∷ take f r
-take-two h w r k f e = let s : k ≡ suc (suc f) = omega arith in ap (λ (x : ℕ). take x (h ∷ w ∷ r)) s
-
-pub drop-two : (h w : ℕ) (r : List ℕ) (k f : ℕ) → k ≡ 2 + f → drop k (h ∷ w ∷ r) ≡ drop f r
-drop-two h w r k f e = let s : k ≡ suc (suc f) = omega arith in ap (λ (x : ℕ). drop x (h ∷ w ∷ r)) s
-
--- where a message of 2 + l dwords goes around the end, with more than one place before it: so many are stored there, and so many others follow
-pub wraps : (n i l : ℕ) → i < n → n - i < 2 + l → (n - i ≡ 1 → ⊥) → (i + (n - i) ≡ n) × (n - i ≡ 2 + (n - i - 2)) × (n - i - 2 ≤ l)
-wraps n i l a b c = (omega arith, omega arith, omega arith)
-
-pub stored-wrapped :
-    (b r m y : List ℕ) (h w i k f j : ℕ) → i + k ≡ length b → k ≡ 2 + f → f ≤ length r → j ≡ length r - f → 2 + length r ≤ length b
-    → m ≡ h ∷ w ∷ take f r → y ≡ take (length r - f) (drop f r) → putMid 0 j (putMid i k b m) y ≡ stored b (length b) i (h ∷ w ∷ r)
-stored-wrapped b r m y h w i k f j e two l q s v u =
-    let x : length (take f r) ≡ f = length-take-le f r l in
-    let a : length (h ∷ w ∷ take f r) ≡ k = ap (λ (z : ℕ). suc (suc z)) x ∙ omega arith in
-    let first = ap (putMid i k b) v ∙ stored-run b i k (h ∷ w ∷ take f r) a (omega arith) ∙ ap (stored b (length b) i) (sym (take-two h w r k f two)) in
-    let others = u ∙ to-end f r ∙ sym (drop-two h w r k f two) in
-    stored-second b _ i k j (h ∷ w ∷ r) _ e (omega arith) (omega arith) (omega arith) first others
-
 -- a run that ends within the buffer is read straight
 pub window-straight : (b : List ℕ) (n i k : ℕ) → i + k ≤ n → n ≤ length b → window b n i k ≡ take k (drop i b)
 unfolding window
@@ -144,23 +110,8 @@ window-straight b n i (suc k) h l =
 pub window-around : (b : List ℕ) (n i k m : ℕ) → i + k ≡ n → window b n i (k + m) ≡ window b n i k ++ window b n 0 m
 window-around b n i k m e = rw (window-append, window-mod b n (i + k) 0 m (around n (i + k) e))
 
--- a part of the buffer is what is read there
-pub window-one : (b : List ℕ) (i k l : ℕ) → k ≡ l → i + l ≤ length b → take k (drop i b) ≡ window b (length b) i l
-window-one b i k l e h = rw e (sym (window-straight b (length b) i l h (omega arith)))
-
--- d is dst after the k dwords up to the end; then the m others go to its places from k on
-pub window-two :
-    (dst b d : List ℕ) (i k m : ℕ) → i + k ≡ length b → k + m ≡ length dst → d ≡ putMid 0 k dst (window b (length b) i k)
-    → putMid k (length d - k) d (window b (length b) 0 m) ≡ window b (length b) i (length dst)
-window-two dst b d i k m p q f =
-    let x : length (window b (length b) i k) ≡ k = window-length b (length b) i k in
-    let z : length d ≡ length dst = ap length f ∙ simp (length-append, length-drop) (omega arith) in
-    let t : take k d ≡ window b (length b) i k = ap (take k) f ∙ take-at _ _ k x in
-    let w : drop (length d - k) (drop k d) ≡ [] = drop-of-length-le (drop k d) {i = length d - k} (simp length-drop (omega arith)) in
-    rw (t, w, append-nil, ← q, window-around b (length b) i k m p)
-
 -- a part from place 2 on, behind two dwords that are stored by themselves
-two-then : (out : List ℕ) (h s len : ℕ) (w : List ℕ) → 2 ≤ len → len ≤ length out → putMid 2 (len - 2) (set (set out 0 h) 1 s) w ≡ h ∷ s ∷ (w ++ drop len out)
+pub two-then : (out : List ℕ) (h s len : ℕ) (w : List ℕ) → 2 ≤ len → len ≤ length out → putMid 2 (len - 2) (set (set out 0 h) 1 s) w ≡ h ∷ s ∷ (w ++ drop len out)
 two-then [] h s len w l k = absurd (omega arith)
 two-then (x ∷ []) h s len w l k = absurd (omega arith)
 two-then (x ∷ y ∷ o) h s zero w l k = absurd (omega arith)
@@ -198,13 +149,6 @@ laid-there xs o h = rw (le-leb (length xs) (length o) h)
 pub laid-none : (dst xs : List ℕ) → length dst < length xs → dst ≡ laid xs dst
 unfolding laid
 laid-none dst xs h = rw (lt-leb _ _ h)
-
--- out after the two dwords, and the others of a message that are read from place r of the ring on
-pub laid-behind : (out b : List ℕ) (n h s len own r : ℕ) (w : List ℕ) → 2 ≤ len → len ≤ length out → r ≡ (own + 2) % n → w ≡ window b n r (length (midOf 2 (len - 2) (set (set out 0 h) 1 s))) → putMid 2 (len - 2) (set (set out 0 h) 1 s) w ≡ h ∷ s ∷ (window b n (own + 2) (len - 2) ++ drop len out)
-laid-behind out b n h s len own r w l k e f =
-    let x : length (midOf 2 (len - 2) (set (set out 0 h) 1 s)) ≡ len - 2 = simp (length-take, length-drop, length-set) (omega arith) in
-    let y : r % n ≡ (own + 2) % n = rw e (mod-mod (own + 2) n) in
-    rw (two-then out h s len w l k, f, x, window-mod b n r (own + 2) (len - 2) y)
 
 -- a message that is there, and for which there is room, is laid
 pub laid-there-from :

@@ -5,7 +5,8 @@ ghost use mathlib.Core.List.{_∷_, _++_};
 ghost use Prim.Native.Nat.{_+_, _-_, _≤_, _<_};
 ghost use lib.ListN.{length, drop};
 ghost use Rattle.runs.specs.Buffer;
-ghost use Rattle.runs.specs.Buffer.{window, stored, storedAt, laid, laidFrom};
+ghost use Rattle.runs.specs.Buffer.{window, storedAt, laid, laidFrom};
+ghost use Rattle.runs.specs.TwoRuns.{firstCount, storedRuns, readRuns};
 use crate::offset::N_MAX;
 use crate::offset::past;
 
@@ -71,29 +72,33 @@ pub fn lay_copy(
     past(own, 2 + rest.len(), n)
 }
 
-// Stores a message from place `at` on: in one run or, where it goes around the end of the buffer, in one up to the end and one from the front. Where
-// one place is left before the end, the second dword opens the second run.
+// How many of k dwords from place `at` on lie before the end of a buffer of n: the first run.
+fn first_count(n: usize, at: usize, k: usize) -> usize
+    requires { ⌜ at ≤ n ⌝ }
+    ensures { λ r. ⌜ (r ≡ firstCount n at k) × (r ≤ k) × (at + r ≤ n) ⌝ }
+{
+    let room = n - at;
+    if k <= room { k } else { room }
+}
+
+// Stores a message from place `at` on in its runs: one up to the end of the buffer at most, and one from the front with what is left. Where the end falls between
+// the first two dwords, the second opens the second run.
 fn store_runs(buf: &mut [u32], at: usize, header: u32, word: u32, rest: &[u32])
     requires { ⌜ (at < length (now buf)) × (2 + length (now rest) ≤ length (now buf)) ⌝ }
-    ensures { λ _. ⌜ now (buf .exit) ≡ stored (now (buf .entry)) (length (now (buf .entry))) at (header ∷ word ∷ now (rest .entry)) ⌝ }
+    ensures { λ _. ⌜ now (buf .exit) ≡ storedRuns (now (buf .entry)) at (header ∷ word ∷ now (rest .entry)) ⌝ }
 {
-    let len = 2 + rest.len();
-    let room = buf.len() - at;
-    if len <= room {
-        let end = at + len;
-        fill(&mut buf[at..end], header, word, rest);
-        return;
-    }
-    if room == 1 {
-        let left = len - 1;
+    let first = first_count(buf.len(), at, 2 + rest.len());
+    if first < 2 {
+        let left = 1 + rest.len();
         buf[at] = header;
         fill_tail(&mut buf[0..left], word, rest);
         return;
     }
-    let first = room - 2;
-    fill(&mut buf[at..], header, word, &rest[0..first]);
-    let left = rest.len() - first;
-    copy_run(&mut buf[0..left], &rest[first..]);
+    let end = at + first;
+    let split = first - 2;
+    let left = rest.len() - split;
+    fill(&mut buf[at..end], header, word, &rest[0..split]);
+    copy_run(&mut buf[0..left], &rest[split..]);
 }
 
 // Stores a message of these two dwords and the others in the ring from place `at` on, or nothing where it does not fit, and returns the tail to publish. It is
@@ -113,21 +118,17 @@ pub fn store_message(buf: &mut [u32], at: usize, header: u32, word: u32, rest: &
     tail
 }
 
-// Fills dst with the dwords of the ring from place `at` on: one run, or two where they go around the end.
-fn load_run(dst: &mut [u32], buf: &[u32], at: usize)
+// Fills dst with the dwords of the ring from place `at` on, read in their runs.
+fn load_runs(dst: &mut [u32], buf: &[u32], at: usize)
     requires { ⌜ (at < length (now buf)) × (length (now dst) ≤ length (now buf)) ⌝ }
-    ensures { λ _. ⌜ now (dst .exit) ≡ window (now (buf .entry)) (length (now (buf .entry))) at (length (now (dst .entry))) ⌝ }
+    ensures { λ _. ⌜ now (dst .exit) ≡ readRuns (now (buf .entry)) at (length (now (dst .entry))) ⌝ }
 {
-    let room = buf.len() - at;
     let count = dst.len();
-    if count <= room {
-        let end = at + count;
-        copy_run(dst, &buf[at..end]);
-    } else {
-        let rest = count - room;
-        copy_run(&mut dst[0..room], &buf[at..]);
-        copy_run(&mut dst[room..], &buf[0..rest]);
-    }
+    let first = first_count(buf.len(), at, count);
+    let end = at + first;
+    let left = count - first;
+    copy_run(&mut dst[0..first], &buf[at..end]);
+    copy_run(&mut dst[first..], &buf[0..left]);
 }
 
 // The dwords behind the first two of a message that starts at place `own`, read to their places in the output.
@@ -138,7 +139,7 @@ fn lay_rest(out: &mut [u32], header: u32, second: u32, len: usize, buf: &[u32], 
     out[0] = header;
     out[1] = second;
     let at = past(own, 2, buf.len());
-    load_run(&mut out[2..len], buf, at);
+    load_runs(&mut out[2..len], buf, at);
 }
 
 // Lays a message of which the first two dwords were read, and the others are read now, at the front of the output, or nothing where there is no such message

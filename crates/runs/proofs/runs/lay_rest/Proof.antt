@@ -8,15 +8,15 @@ use borrow.Author.Needs.{needs}
 use borrow.Rule.Slice.PartMut.{same-len-mid}
 use denote.Ref.{now}
 use Rattle.runs.proofs.Offsets.{past-is}
-use Rattle.runs.proofs.Straight.{laid-behind}
+use Rattle.runs.proofs.TwoRuns.{laid-behind}
 use Rattle.runs.proofs.runs.lay_rest.Statement.{statement}
 use Rattle.runs.proofs.runs.lay_rest.Tie as tie
 
 slice-write-out-2 : tie.Need-slice-write-out-2
 slice-write-out-2 c = simp length-set (omega arith)
 
-load-run-requires : tie.Need-load-run-requires
-load-run-requires c κs =
+load-runs-requires : tie.Need-load-runs-requires
+load-runs-requires c κs =
     let a = c .before .before .before .before .args in
     let n = length (now (a .buf)) in
     let e = c .before .past .ensures .0 ∙ past-is n (a .own) 2 (omega arith) (omega arith) (omega arith) in
@@ -28,14 +28,15 @@ same-length c =
     let a = c .before .before .before .before .before .before .before .args in
     let out = set (set (now (a .out)) 0 (a .header)) 1 (a .second) in
     let l : length out ≡ length (now (a .out)) = simp length-set in
-    same-len-mid 2 (a .len - 2) out (c .before .before .load-run .last .0) (c .before .before .load-run .kept .0) ∙ l
+    same-len-mid 2 (a .len - 2) out (c .before .before .load-runs .last .0) (c .before .before .load-runs .kept .0) ∙ l
 
 returns : tie.Need-returns
 returns c =
     let a = c .before .before .before .before .before .before .before .args in
     let n = length (now (a .buf)) in
     let e = c .before .before .before .before .past .ensures .0 ∙ past-is n (a .own) 2 (omega arith) (omega arith) (omega arith) in
-    laid-behind (now (a .out)) (now (a .buf)) _ (a .header) (a .second) (a .len) (a .own) _ _ (omega arith) (omega arith) e (c .before .before .load-run .ensures)
+    laid-behind (now (a .out)) (now (a .buf)) (a .header) (a .second) (a .len) (a .own) _ _ (omega arith) (omega arith) (omega arith) (omega arith) e
+    (c .before .before .load-runs .ensures)
 
 pub lay-rest-spec : {M : Type 1} → statement M
 lay-rest-spec =
@@ -47,6 +48,6 @@ lay-rest-spec =
     (λ c. search needs)
     (λ c. search needs)
     (λ c. search needs)
-    load-run-requires
+    load-runs-requires
     same-length
     returns)

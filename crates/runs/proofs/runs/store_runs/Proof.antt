@@ -1,67 +1,53 @@
--- `runs::store_runs` meets its contract: straight runs store what `stored` does, one run or two. Assumes nothing.
+-- `runs::store_runs` meets its contract: the two judged dwords open the first run, or the second is opened by one of them. Assumes nothing.
 use Prim.Native.Nat.{_+_, _-_}
-use mathlib.Core.Path.{refl, _∙_}
-use mathlib.Core.List.{_∷_}
+use mathlib.Core.Path.{sym, _∙_}
 use native.Mathlib.Nat.{sub-zero}
 use native.Mathlib.Omega.{arith}
 use lib.ListN.{length, set, length-set}
 use borrow.Author.Needs.{needs}
 use borrow.Rule.Slice.PartMut.{same-len-mid}
 use denote.Ref.{now}
-use Rattle.runs.proofs.Straight.{stored-run, stored-second, stored-single, stored-wrapped, wraps}
+use Rattle.runs.proofs.TwoRuns.{one-place, stored-apart, stored-together}
 use Rattle.runs.proofs.runs.store_runs.Statement.{statement}
 use Rattle.runs.proofs.runs.store_runs.Tie as tie
-
-returns : tie.Need-returns
-returns c =
-    let a = c .before .before .before .before .before .before .before .args in
-    let k = a .at + (2 + length (now (a .rest))) - a .at in
-    rw (c .before .before .fill .ensures) (stored-run (now (a .buf)) (a .at) k (a .header ∷ a .word ∷ now (a .rest)) (omega arith) (omega arith))
 
 part-fill-tail-end : tie.Need-part-fill-tail-end
 part-fill-tail-end c = simp length-set (omega arith)
 
-same-length-2 : tie.Need-same-length-2
-same-length-2 c =
+same-length : tie.Need-same-length
+same-length c =
     let a = c .before .before .before .before .before .before .before .before .args in
     let m = set (now (a .buf)) (a .at) (a .header) in
-    same-len-mid 0 (2 + length (now (a .rest)) - 1 - 0) m (c .before .before .fill-tail .last .0) (c .before .before .fill-tail .kept .0) ∙ length-set (now (a .buf)) (a .at) (a .header)
+    same-len-mid 0 (1 + length (now (a .rest)) - 0) m (c .before .before .fill-tail .last .0) (c .before .before .fill-tail .kept .0) ∙ length-set (now (a .buf)) (a .at) (a .header)
 
--- one place before the end: the second dword opens the second run
-returns-2 : tie.Need-returns-2
-returns-2 c =
-    let a = c .before .before .before .before .before .before .before .before .args in
-    let b = now (a .buf) in
-    let xs = a .header ∷ a .word ∷ now (a .rest) in
-    let j = 2 + length (now (a .rest)) - 1 - 0 in
-    rw (c .before .before .fill-tail .ensures)
-    (stored-second b _ (a .at) 1 j xs _ (omega arith) (omega arith) (omega arith) (omega arith) (stored-single b (a .at) (a .header) (omega arith)) refl)
-
-returns-3 : tie.Need-returns-3
-returns-3 c =
-    let first = c .before .before .before .before .before .before .before in
-    let start = first .before .before .before .before .before .before .before in
-    let a = start .args in
+-- the end of the buffer falls between the two
+returns : tie.Need-returns
+returns c =
+    let judged = c .before .before .before .before in
+    let f = judged .before .first-count in
+    let a = judged .before .before .before .before .args in
     let b = now (a .buf) in
     let r = now (a .rest) in
-    let k = length b - a .at in
-    let s = wraps (length b) (a .at) (length r) (start .pre .0) (first .before .before .before .before .if1 .left) (first .before .before .before .if2 .left) in
-    stored-wrapped b r _ _ (a .header) (a .word) (a .at) k (k - 2) (length r - (k - 2) - 0) (s .0) (s .1) (s .2) (sub-zero _) (start .pre .1) (rw sub-zero at (first .fill2 .ensures)) (c .before .before .copy-run .ensures)
+    let e = one-place (length b) (a .at) (length r) (f .result) (omega arith) (f .ensures .0) (judged .if1 .taken) in
+    rw (c .before .before .fill-tail .ensures) (stored-apart b r (a .header) (a .word) (a .at) (1 + length r - 0) e (omega arith))
+
+returns-2 : tie.Need-returns-2
+returns-2 c =
+    let first = c .before .before .before .before .before .before .before in
+    let f = first .before .before .before .before .first-count in
+    let k = f .result in
+    let a = first .before .before .before .before .before .before .before .args in
+    let b = now (a .buf) in
+    let r = now (a .rest) in
+    stored-together b r _ _ (a .header) (a .word) (a .at) (a .at + k - a .at) (k - 2) (length r - (k - 2) - 0)
+    (sym (f .ensures .0) ∙ omega arith) (omega arith) (omega arith) (sub-zero _) (rw sub-zero at (first .fill .ensures)) (c .before .before .copy-run .ensures)
 
 pub store-runs-spec : {M : Type 1} → statement M
 store-runs-spec =
     tie.close
     (tie.spec
     (λ c. search needs)
-    (λ c. search needs)
-    (λ c. search needs)
-    (λ c. search needs)
-    (λ c. search needs)
-    (λ c. search needs)
-    (λ c. search needs)
     (λ c κs. search needs)
-    (λ c. search needs)
-    returns
     (λ c. search needs)
     (λ c. search needs)
     (λ c. search needs)
@@ -69,17 +55,9 @@ store-runs-spec =
     (λ c. search needs)
     part-fill-tail-end
     (λ c κs. search needs)
-    same-length-2
-    returns-2
+    same-length
+    returns
     (λ c. search needs)
-    (λ c. search needs)
-    (λ c. search needs)
-    (λ c. search needs)
-    (λ c. search needs)
-    (λ c. search needs)
-    (λ c. search needs)
-    (λ c. search needs)
-    (λ c κs. search needs)
     (λ c. search needs)
     (λ c. search needs)
     (λ c. search needs)
@@ -90,4 +68,12 @@ store-runs-spec =
     (λ c. search needs)
     (λ c κs. search needs)
     (λ c. search needs)
-    returns-3)
+    (λ c. search needs)
+    (λ c. search needs)
+    (λ c. search needs)
+    (λ c. search needs)
+    (λ c. search needs)
+    (λ c. search needs)
+    (λ c κs. search needs)
+    (λ c. search needs)
+    returns-2)

@@ -1,0 +1,49 @@
+-- `runs::load_runs` meets its contract: two straight runs, the second of nothing where the first has all. Assumes nothing.
+use Prim.Native.Nat.{_+_, _-_}
+use mathlib.Core.Path.{sym, _∙_}
+use native.Mathlib.Nat.{sub-zero}
+use native.Mathlib.Omega.{arith}
+use lib.ListN.{length}
+use borrow.Author.Needs.{needs}
+use denote.Ref.{now}
+use Rattle.runs.proofs.TwoRuns.{part-run, read-together}
+use Rattle.runs.proofs.runs.load_runs.Statement.{statement}
+use Rattle.runs.proofs.runs.load_runs.Tie as tie
+
+returns : tie.Need-returns
+returns c =
+    let second = c .before .before in
+    let first = second .before .before .before .before .before in
+    let f = first .before .before .before .first-count in
+    let a = first .before .before .before .before .before .before .args in
+    let b = now (a .buf) in
+    let k = length (now (a .dst)) in
+    let x = first .copy-run .ensures ∙ part-run b (a .at) (a .at + f .result - a .at) (f .result) (omega arith) in
+    let y = second .copy-run2 .ensures ∙ part-run b 0 (k - f .result - 0) (k - f .result) (omega arith) in
+    read-together (now (a .dst)) b _ _ _ (a .at) (f .result) (sym (f .ensures .0)) (f .ensures .1) (f .ensures .2) x y (rw sub-zero)
+
+pub load-runs-spec : {M : Type 1} → statement M
+load-runs-spec =
+    tie.close
+    (tie.spec
+    (λ c κs. search needs)
+    (λ c. search needs)
+    (λ c. search needs)
+    (λ c. search needs)
+    (λ c. search needs)
+    (λ c. search needs)
+    (λ c. search needs)
+    (λ c. search needs)
+    (λ c. search needs)
+    (λ c. search needs)
+    (λ c κs. search needs)
+    (λ c. search needs)
+    (λ c. search needs)
+    (λ c. search needs)
+    (λ c. search needs)
+    (λ c. search needs)
+    (λ c. search needs)
+    (λ c. search needs)
+    (λ c κs. search needs)
+    (λ c. search needs)
+    returns)
