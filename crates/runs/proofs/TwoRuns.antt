@@ -86,14 +86,18 @@ pub none-left : (b : List ℕ) → withRun b 0 [] ≡ b
 unfolding withRun
 none-left b = refl
 
+-- dwords that are all in the first run
+alone : (b : List ℕ) (i : ℕ) (xs : List ℕ) → length xs ≤ length b - i → withRun b i xs ≡ storedRuns b i xs
+alone b i xs h =
+    let a : take (length xs) xs ≡ xs = take-all (length xs) xs (omega arith) in
+    let z : drop (length xs) xs ≡ [] = drop-of-length-le xs {i = length xs} (omega arith) in
+    rw (in-runs b i xs (length xs) (first-all _ _ _ h), a, z, none-left)
+
 pub stored-in-runs : (b : List ℕ) (i : ℕ) (xs : List ℕ) → i < length b → length xs ≤ length b → stored b (length b) i xs ≡ storedRuns b i xs
 stored-in-runs b i xs l h = elim (decLt (length b - i) (length xs)) [ yes u ↦ around u | no u ↦ straight (omega arith) ]
   where
     straight : length xs ≤ length b - i → stored b (length b) i xs ≡ storedRuns b i xs
-    straight u =
-        let a : take (length xs) xs ≡ xs = take-all (length xs) xs (omega arith) in
-        let z : drop (length xs) xs ≡ [] = drop-of-length-le xs {i = length xs} (omega arith) in
-        rw (in-runs b i xs (length xs) (first-all _ _ _ u), a, z, none-left) (stored-run b (length b) i xs (omega arith) (omega arith))
+    straight u = stored-run b (length b) i xs (omega arith) (omega arith) ∙ alone b i xs u
 
     around : length b - i < length xs → stored b (length b) i xs ≡ storedRuns b i xs
     around u =
@@ -116,13 +120,16 @@ none-read : (b : List ℕ) → runOf b 0 0 ≡ []
 unfolding runOf
 none-read b = refl
 
+pub read-alone : (b : List ℕ) (i k : ℕ) → k ≤ length b - i → runOf b i k ≡ readRuns b i k
+read-alone b i k h =
+    let z : k - k ≡ 0 = omega arith in
+    rw (read-by b i k k (first-all _ _ _ h), z, none-read, append-nil)
+
 pub read-in-runs : (b : List ℕ) (i k : ℕ) → i < length b → k ≤ length b → window b (length b) i k ≡ readRuns b i k
 read-in-runs b i k l h = elim (decLt (length b - i) k) [ yes u ↦ around u | no u ↦ straight (omega arith) ]
   where
     straight : k ≤ length b - i → window b (length b) i k ≡ readRuns b i k
-    straight u =
-        let z : k - k ≡ 0 = omega arith in
-        rw (read-by b i k k (first-all _ _ _ u), z, none-read, append-nil) (read-run b (length b) i k (omega arith) (omega arith))
+    straight u = read-run b (length b) i k (omega arith) (omega arith) ∙ read-alone b i k u
 
     around : length b - i < k → window b (length b) i k ≡ readRuns b i k
     around u =
@@ -160,17 +167,24 @@ others-read b i k l h =
     let m : (i + 2) % n < n = mod-lt (i + 2) (omega arith) in
     window-mod b n (i + 2) ((i + 2) % n) k (sym (mod-mod (i + 2) n)) ∙ read-in-runs b ((i + 2) % n) k m h
 
--- what `store_runs` stores: two dwords by value and the others, of which f lie in the first run
-pub stored-together :
-    (b r m y : List ℕ) (h w i k f j : ℕ) → firstCount (length b) i (2 + length r) ≡ 2 + f → f ≤ length r → k ≡ 2 + f → j ≡ length r - f → m ≡ h ∷ w ∷ take f r
-    → y ≡ take (length r - f) (drop f r) → putMid 0 j (putMid i k b m) y ≡ storedRuns b i (h ∷ w ∷ r)
-stored-together b r m y h w i k f j e l p q v u =
-    let x : length (take f r) ≡ f = length-take-le f r l in
-    let a : length (h ∷ w ∷ take f r) ≡ k = ap (λ (z : ℕ). suc (suc z)) x ∙ omega arith in
-    let d : length (drop f r) ≡ j = length-drop f r ∙ sym q in
-    rw (v, u, to-end f r)
-    (put-run _ 0 j (drop f r) d ∙ ap (λ (z : List ℕ). withRun z 0 (drop f r)) (put-run b i k (h ∷ w ∷ take f r) a) ∙ sym (together b i h w r f e))
+-- what `store_runs` stores: dwords that are all in the first run
+pub stored-alone : (b : List ℕ) (i k : ℕ) (xs : List ℕ) → length xs ≡ k → i + k ≤ length b → putMid i k b xs ≡ storedRuns b i xs
+stored-alone b i k xs l h = put-run b i k xs l ∙ alone b i xs (omega arith)
 
+-- two dwords by value and the others, k of them all in the first run
+pub stored-together :
+    (b r m y : List ℕ) (h w i k : ℕ) → k ≡ firstCount (length b) i (2 + length r) → k ≤ 2 + length r → 2 ≤ k → m ≡ h ∷ w ∷ take (k - 2) r
+    → y ≡ take (length r - (k - 2)) (drop (k - 2) r) → putMid 0 (length r - (k - 2) - 0) (putMid i (i + k - i) b m) y ≡ storedRuns b i (h ∷ w ∷ r)
+stored-together b r m y h w i k e l t v u =
+    let f = k - 2 in
+    let x : length (take f r) ≡ f = length-take-le f r (omega arith) in
+    let a : length (h ∷ w ∷ take f r) ≡ i + k - i = ap (λ (z : ℕ). suc (suc z)) x ∙ omega arith in
+    let d : length (drop f r) ≡ length r - f - 0 = length-drop f r ∙ omega arith in
+    let p : k ≡ 2 + f = omega arith in
+    rw (v, u, to-end f r)
+    (put-run _ 0 (length r - f - 0) (drop f r) d ∙ ap (λ (z : List ℕ). withRun z 0 (drop f r)) (put-run b i (i + k - i) (h ∷ w ∷ take f r) a) ∙ sym (together b i h w r f (sym e ∙ p)))
+
+-- or one by value in the first run, and the other with the others in the second
 pub stored-apart :
     (b r : List ℕ) (h w i j : ℕ) → i + 1 ≡ length b → j ≡ 1 + length r → putMid 0 j (set b i h) (w ∷ r) ≡ storedRuns b i (h ∷ w ∷ r)
 stored-apart b r h w i j e q =

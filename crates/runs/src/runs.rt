@@ -87,14 +87,19 @@ fn store_runs(buf: &mut [u32], at: usize, header: u32, word: u32, rest: &[u32])
     requires { ⌜ (at < length (now buf)) × (2 + length (now rest) ≤ length (now buf)) ⌝ }
     ensures { λ _. ⌜ now (buf .exit) ≡ storedRuns (now (buf .entry)) at (header ∷ word ∷ now (rest .entry)) ⌝ }
 {
-    let first = first_count(buf.len(), at, 2 + rest.len());
+    let len = 2 + rest.len();
+    let first = first_count(buf.len(), at, len);
+    let end = at + first;
+    if first == len {
+        fill(&mut buf[at..end], header, word, rest);
+        return;
+    }
     if first < 2 {
         let left = 1 + rest.len();
         buf[at] = header;
         fill_tail(&mut buf[0..left], word, rest);
         return;
     }
-    let end = at + first;
     let split = first - 2;
     let left = rest.len() - split;
     fill(&mut buf[at..end], header, word, &rest[0..split]);
@@ -126,6 +131,10 @@ fn load_runs(dst: &mut [u32], buf: &[u32], at: usize)
     let count = dst.len();
     let first = first_count(buf.len(), at, count);
     let end = at + first;
+    if first == count {
+        copy_run(dst, &buf[at..end]);
+        return;
+    }
     let left = count - first;
     copy_run(&mut dst[0..first], &buf[at..end]);
     copy_run(&mut dst[first..], &buf[0..left]);
