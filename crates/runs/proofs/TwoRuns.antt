@@ -3,7 +3,7 @@ use Prim.Native.Nat.{ℕ, suc, _+_, _-_, _%_, _≤_, _<_, min}
 use mathlib.Core.Path.{_≡_, refl, sym, ap, _∙_}
 use mathlib.Core.List.{List, [], _∷_, _++_, append-nil}
 use native.Mathlib.Decide.{decLt}
-use native.Mathlib.Nat.{add-mod-left, min-eq-left, min-eq-right, mod-eq-of-lt, mod-lt, mod-mod}
+use native.Mathlib.Nat.{add-mod-left, min-eq-left, min-eq-right, mod-eq-of-lt, mod-lt, mod-mod, sub-zero}
 use native.Mathlib.Omega.{arith}
 use lib.ListN.{length, set, take, drop, drop-of-length-le, length-append, length-drop, length-set, length-take}
 use lib.Seq.{take-all, take-at, drop-drop, length-take-le}
@@ -43,11 +43,7 @@ module _ (n i k : ℕ) where
   unfolding firstCount
   two l f h = omega arith
 
--- of two dwords or more: where it has one, one place is left before the end; else it has what it has behind two of them, and those
-pub one-place : (n i k f : ℕ) → i < n → f ≡ firstCount n i (2 + k) → f < 2 → i + 1 ≡ n
-unfolding firstCount
-one-place n i k f l e h = omega arith
-
+-- of two dwords or more, where two places are left before the end: what it has behind two of them, and those
 behind-two : (n i k : ℕ) → i + 2 ≤ n → firstCount n i (2 + k) ≡ 2 + firstCount n (i + 2) k
 unfolding firstCount
 behind-two n i k h = omega arith
@@ -171,18 +167,21 @@ others-read b i k l h =
 pub stored-alone : (b : List ℕ) (i k : ℕ) (xs : List ℕ) → length xs ≡ k → i + k ≤ length b → putMid i k b xs ≡ storedRuns b i xs
 stored-alone b i k xs l h = put-run b i k xs l ∙ alone b i xs (omega arith)
 
--- two dwords by value and the others, k of them all in the first run
+-- two dwords by value and the others, k of them all before the end
 pub stored-together :
-    (b r m y : List ℕ) (h w i k : ℕ) → k ≡ firstCount (length b) i (2 + length r) → k ≤ 2 + length r → 2 ≤ k → m ≡ h ∷ w ∷ take (k - 2) r
-    → y ≡ take (length r - (k - 2)) (drop (k - 2) r) → putMid 0 (length r - (k - 2) - 0) (putMid i (i + k - i) b m) y ≡ storedRuns b i (h ∷ w ∷ r)
-stored-together b r m y h w i k e l t v u =
+    (b r m y : List ℕ) (h w i : ℕ) → let k = length b - i in i < length b → k < 2 + length r → (k ≡ 1 → ⊥) → m ≡ h ∷ w ∷ take (k - 2) r
+    → y ≡ take (length r - (k - 2)) (drop (k - 2) r) → putMid 0 (length r - (k - 2) - 0) (putMid i k b m) y ≡ storedRuns b i (h ∷ w ∷ r)
+stored-together b r m y h w i l t o v u =
+    let k = length b - i in
     let f = k - 2 in
-    let x : length (take f r) ≡ f = length-take-le f r (omega arith) in
-    let a : length (h ∷ w ∷ take f r) ≡ i + k - i = ap (λ (z : ℕ). suc (suc z)) x ∙ omega arith in
-    let d : length (drop f r) ≡ length r - f - 0 = length-drop f r ∙ omega arith in
     let p : k ≡ 2 + f = omega arith in
+    let x : length (take f r) ≡ f = length-take-le f r (omega arith) in
+    let a : length (h ∷ w ∷ take f r) ≡ k = ap (λ (z : ℕ). suc (suc z)) x ∙ omega arith in
+    let d : length (drop f r) ≡ length r - f - 0 = length-drop f r ∙ sym (sub-zero _) in
     rw (v, u, to-end f r)
-    (put-run _ 0 (length r - f - 0) (drop f r) d ∙ ap (λ (z : List ℕ). withRun z 0 (drop f r)) (put-run b i (i + k - i) (h ∷ w ∷ take f r) a) ∙ sym (together b i h w r f (sym e ∙ p)))
+    (put-run _ 0 (length r - f - 0) (drop f r) d
+    ∙ ap (λ (z : List ℕ). withRun z 0 (drop f r)) (put-run b i k (h ∷ w ∷ take f r) a)
+    ∙ sym (together b i h w r f (first-to-end _ _ _ (omega arith) ∙ p)))
 
 -- or one by value in the first run, and the other with the others in the second
 pub stored-apart :
@@ -191,16 +190,17 @@ stored-apart b r h w i j e q =
     let s : set b i h ≡ withRun b i (h ∷ []) = stored-single b i h (omega arith) ∙ stored-run b (length b) i (h ∷ []) (omega arith) (omega arith) in
     put-run _ 0 j (w ∷ r) (omega arith) ∙ ap (λ (z : List ℕ). withRun z 0 (w ∷ r)) s ∙ sym (judged-apart b i h w r e)
 
--- what `load_runs` reads: f dwords to the front of dst, and as many others as it has places behind them
+-- what `load_runs` reads: k dwords to the front of dst, and as many others as it has places behind them
 pub read-together :
-    (dst b d x y : List ℕ) (i f : ℕ) → firstCount (length b) i (length dst) ≡ f → f ≤ length dst → i + f ≤ length b → x ≡ runOf b i f → y ≡ runOf b 0 (length dst - f)
-    → d ≡ putMid 0 f dst x → putMid f (length d - f) d y ≡ readRuns b i (length dst)
-read-together dst b d x y i f e l h u v p =
-    let a : length x ≡ f = ap length u ∙ length-run b i f h in
+    (dst b d x y : List ℕ) (i : ℕ) → let k = length b - i in i < length b → k < length dst → x ≡ runOf b i k → y ≡ runOf b 0 (length dst - k)
+    → d ≡ putMid 0 k dst x → putMid k (length d - k) d y ≡ readRuns b i (length dst)
+read-together dst b d x y i l h u v p =
+    let k = length b - i in
+    let a : length x ≡ k = ap length u ∙ length-run b i k (omega arith) in
     let z : length d ≡ length dst = ap length p ∙ simp (length-append, length-drop) (omega arith) in
-    let t : take f d ≡ x = ap (take f) p ∙ take-at _ _ f a in
-    let w : drop (length d - f) (drop f d) ≡ [] = drop-of-length-le (drop f d) {i = length d - f} (simp length-drop (omega arith)) in
-    rw (t, w, append-nil, u, v) (sym (read-by b i (length dst) f e))
+    let t : take k d ≡ x = ap (take k) p ∙ take-at _ _ k a in
+    let w : drop (length d - k) (drop k d) ≡ [] = drop-of-length-le (drop k d) {i = length d - k} (simp length-drop (omega arith)) in
+    rw (t, w, append-nil, u, v) (sym (read-by b i (length dst) k (first-to-end _ _ _ (omega arith))))
 
 -- what `lay_rest` lays: two dwords by value, and behind them those that are read from two places further on
 pub laid-behind :

@@ -6,7 +6,7 @@ ghost use Prim.Native.Nat.{_+_, _-_, _≤_, _<_};
 ghost use lib.ListN.{length, drop};
 ghost use Rattle.runs.specs.Buffer;
 ghost use Rattle.runs.specs.Buffer.{window, storedAt, laid, laidFrom};
-ghost use Rattle.runs.specs.TwoRuns.{firstCount, storedRuns, readRuns};
+ghost use Rattle.runs.specs.TwoRuns.{storedRuns, readRuns};
 use crate::offset::N_MAX;
 use crate::offset::past;
 
@@ -72,15 +72,6 @@ pub fn lay_copy(
     past(own, 2 + rest.len(), n)
 }
 
-// How many of k dwords from place `at` on lie before the end of a buffer of n: the first run.
-fn first_count(n: usize, at: usize, k: usize) -> usize
-    requires { ⌜ at ≤ n ⌝ }
-    ensures { λ r. ⌜ (r ≡ firstCount n at k) × (r ≤ k) × (at + r ≤ n) ⌝ }
-{
-    let room = n - at;
-    if k <= room { k } else { room }
-}
-
 // Stores a message from place `at` on in its runs: one up to the end of the buffer at most, and one from the front with what is left. Where the end falls between
 // the first two dwords, the second opens the second run.
 fn store_runs(buf: &mut [u32], at: usize, header: u32, word: u32, rest: &[u32])
@@ -88,21 +79,21 @@ fn store_runs(buf: &mut [u32], at: usize, header: u32, word: u32, rest: &[u32])
     ensures { λ _. ⌜ now (buf .exit) ≡ storedRuns (now (buf .entry)) at (header ∷ word ∷ now (rest .entry)) ⌝ }
 {
     let len = 2 + rest.len();
-    let first = first_count(buf.len(), at, len);
-    let end = at + first;
-    if first == len {
+    let room = buf.len() - at;
+    if len <= room {
+        let end = at + len;
         fill(&mut buf[at..end], header, word, rest);
         return;
     }
-    if first < 2 {
-        let left = 1 + rest.len();
+    if room == 1 {
+        let left = len - 1;
         buf[at] = header;
         fill_tail(&mut buf[0..left], word, rest);
         return;
     }
-    let split = first - 2;
+    let split = room - 2;
+    fill(&mut buf[at..], header, word, &rest[0..split]);
     let left = rest.len() - split;
-    fill(&mut buf[at..end], header, word, &rest[0..split]);
     copy_run(&mut buf[0..left], &rest[split..]);
 }
 
@@ -128,16 +119,16 @@ fn load_runs(dst: &mut [u32], buf: &[u32], at: usize)
     requires { ⌜ (at < length (now buf)) × (length (now dst) ≤ length (now buf)) ⌝ }
     ensures { λ _. ⌜ now (dst .exit) ≡ readRuns (now (buf .entry)) at (length (now (dst .entry))) ⌝ }
 {
+    let room = buf.len() - at;
     let count = dst.len();
-    let first = first_count(buf.len(), at, count);
-    let end = at + first;
-    if first == count {
+    if count <= room {
+        let end = at + count;
         copy_run(dst, &buf[at..end]);
-        return;
+    } else {
+        let left = count - room;
+        copy_run(&mut dst[0..room], &buf[at..]);
+        copy_run(&mut dst[room..], &buf[0..left]);
     }
-    let left = count - first;
-    copy_run(&mut dst[0..first], &buf[at..end]);
-    copy_run(&mut dst[first..], &buf[0..left]);
 }
 
 // The dwords behind the first two of a message that starts at place `own`, read to their places in the output.
