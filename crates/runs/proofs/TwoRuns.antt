@@ -167,20 +167,20 @@ others-read b i k l h =
 pub stored-alone : (b : List ℕ) (i k : ℕ) (xs : List ℕ) → length xs ≡ k → i + k ≤ length b → putMid i k b xs ≡ storedRuns b i xs
 stored-alone b i k xs l h = put-run b i k xs l ∙ alone b i xs (omega arith)
 
--- two dwords by value and the others, k of them all before the end
+-- two dwords by value and the others, k of them all before the end and those that are left from the front on
 pub stored-together :
-    (b r m y : List ℕ) (h w i : ℕ) → let k = length b - i in i < length b → k < 2 + length r → (k ≡ 1 → ⊥) → m ≡ h ∷ w ∷ take (k - 2) r
-    → y ≡ take (length r - (k - 2)) (drop (k - 2) r) → putMid 0 (length r - (k - 2) - 0) (putMid i k b m) y ≡ storedRuns b i (h ∷ w ∷ r)
-stored-together b r m y h w i l t o v u =
+    (b r m y : List ℕ) (h w i j : ℕ) → let k = length b - i in i < length b → k < 2 + length r → (k ≡ 1 → ⊥) → j ≡ length r - (k - 2)
+    → m ≡ h ∷ w ∷ take (k - 2) r → y ≡ drop (k - 2) r → putMid 0 j (putMid i k b m) y ≡ storedRuns b i (h ∷ w ∷ r)
+stored-together b r m y h w i j l t o q v u =
     let k = length b - i in
     let f = k - 2 in
     let p : k ≡ 2 + f = omega arith in
     let x : length (take f r) ≡ f = length-take-le f r (omega arith) in
-    let a : length (h ∷ w ∷ take f r) ≡ k = ap (λ (z : ℕ). suc (suc z)) x ∙ omega arith in
-    let d : length (drop f r) ≡ length r - f - 0 = length-drop f r ∙ sym (sub-zero _) in
-    rw (v, u, to-end f r)
-    (put-run _ 0 (length r - f - 0) (drop f r) d
-    ∙ ap (λ (z : List ℕ). withRun z 0 (drop f r)) (put-run b i k (h ∷ w ∷ take f r) a)
+    let a : length (h ∷ w ∷ take f r) ≡ k = ap (λ (n : ℕ). suc (suc n)) x ∙ omega arith in
+    let d : length (drop f r) ≡ j = length-drop f r ∙ sym q in
+    rw (v, u)
+    (put-run _ 0 j (drop f r) d
+    ∙ ap (λ (n : List ℕ). withRun n 0 (drop f r)) (put-run b i k (h ∷ w ∷ take f r) a)
     ∙ sym (together b i h w r f (first-to-end _ _ _ (omega arith) ∙ p)))
 
 -- or one by value in the first run, and the other with the others in the second
@@ -188,16 +188,16 @@ pub stored-apart :
     (b r : List ℕ) (h w i j : ℕ) → i + 1 ≡ length b → j ≡ 1 + length r → putMid 0 j (set b i h) (w ∷ r) ≡ storedRuns b i (h ∷ w ∷ r)
 stored-apart b r h w i j e q =
     let s : set b i h ≡ withRun b i (h ∷ []) = stored-single b i h (omega arith) ∙ stored-run b (length b) i (h ∷ []) (omega arith) (omega arith) in
-    put-run _ 0 j (w ∷ r) (omega arith) ∙ ap (λ (z : List ℕ). withRun z 0 (w ∷ r)) s ∙ sym (judged-apart b i h w r e)
+    put-run _ 0 j (w ∷ r) (omega arith) ∙ ap (λ (n : List ℕ). withRun n 0 (w ∷ r)) s ∙ sym (judged-apart b i h w r e)
 
--- what `load_runs` reads: k dwords to the front of dst, and as many others as it has places behind them
+-- what `load_runs` reads: k dwords to the front of dst, and from the buffer's front on as many others as it has places behind them
 pub read-together :
     (dst b d x y : List ℕ) (i : ℕ) → let k = length b - i in i < length b → k < length dst → x ≡ runOf b i k → y ≡ runOf b 0 (length dst - k)
     → d ≡ putMid 0 k dst x → putMid k (length d - k) d y ≡ readRuns b i (length dst)
 read-together dst b d x y i l h u v p =
     let k = length b - i in
     let a : length x ≡ k = ap length u ∙ length-run b i k (omega arith) in
-    let z : length d ≡ length dst = ap length p ∙ simp (length-append, length-drop) (omega arith) in
+    let s : length d ≡ length dst = ap length p ∙ simp (length-append, length-drop) (omega arith) in
     let t : take k d ≡ x = ap (take k) p ∙ take-at _ _ k a in
     let w : drop (length d - k) (drop k d) ≡ [] = drop-of-length-le (drop k d) {i = length d - k} (simp length-drop (omega arith)) in
     rw (t, w, append-nil, u, v) (sym (read-by b i (length dst) k (first-to-end _ _ _ (omega arith))))

@@ -10,7 +10,10 @@ ghost use Rattle.runs.specs.TwoRuns.{storedRuns, readRuns};
 use crate::offset::N_MAX;
 use crate::offset::past;
 
-// Fills dst with the dwords of src: a straight run, with no test inside.
+// Where the second run starts: at the buffer's first dword.
+const FRONT: usize = 0;
+
+// Fills dst with the dwords of src: a straight run, with no test but its end.
 fn copy_run(dst: &mut [u32], src: &[u32])
     requires { ⌜ length (now dst) ≡ length (now src) ⌝ }
     ensures { λ _. ⌜ now (dst .exit) ≡ now (src .entry) ⌝ }
@@ -86,15 +89,17 @@ fn store_runs(buf: &mut [u32], at: usize, header: u32, word: u32, rest: &[u32])
         return;
     }
     if room == 1 {
-        let left = len - 1;
+        let end = FRONT + (len - 1);
         buf[at] = header;
-        fill_tail(&mut buf[0..left], word, rest);
+        fill_tail(&mut buf[FRONT..end], word, rest);
         return;
     }
-    let split = room - 2;
-    fill(&mut buf[at..], header, word, &rest[0..split]);
-    let left = rest.len() - split;
-    copy_run(&mut buf[0..left], &rest[split..]);
+    let taken = room - 2;
+    fill(&mut buf[at..], header, word, &rest[0..taken]);
+    let next = taken;
+    let others = rest.len();
+    let end = FRONT + (others - next);
+    copy_run(&mut buf[FRONT..end], &rest[next..others]);
 }
 
 // Stores a message of these two dwords and the others in the ring from place `at` on, or nothing where it does not fit, and returns the tail to publish. It is
@@ -125,9 +130,9 @@ fn load_runs(dst: &mut [u32], buf: &[u32], at: usize)
         let end = at + count;
         copy_run(dst, &buf[at..end]);
     } else {
-        let left = count - room;
+        let end = FRONT + (count - room);
         copy_run(&mut dst[0..room], &buf[at..]);
-        copy_run(&mut dst[room..], &buf[0..left]);
+        copy_run(&mut dst[room..], &buf[FRONT..end]);
     }
 }
 

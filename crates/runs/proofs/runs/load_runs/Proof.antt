@@ -25,7 +25,7 @@ returns-2 c =
     let b = now (a .buf) in
     let k = length b - a .at in
     let x = first .copy-run2 .ensures ∙ part-run b (a .at) k k refl in
-    let y = c .before .before .copy-run3 .ensures ∙ part-run b 0 (length dst - k - 0) (length dst - k) (sub-zero _) in
+    let y = c .before .before .copy-run3 .ensures ∙ part-run b 0 (0 + (length dst - k) - 0) (length dst - k) (omega arith) in
     read-together dst b _ _ _ (a .at) (omega arith) (omega arith) x y (rw sub-zero)
 
 pub load-runs-spec : {M : Type 1} → statement M
@@ -39,6 +39,7 @@ load-runs-spec =
     (λ c. search needs)
     (λ c. search needs)
     (λ c κs. search needs)
+    (λ c. search needs)
     (λ c. search needs)
     (λ c. search needs)
     (λ c. search needs)

@@ -1,6 +1,6 @@
 -- `runs::store_runs` meets its contract: one straight run, or two. Assumes nothing.
 use Prim.Native.Nat.{_+_, _-_}
-use mathlib.Core.Path.{refl, _∙_}
+use mathlib.Core.Path.{_∙_}
 use mathlib.Core.List.{_∷_}
 use native.Mathlib.Nat.{sub-zero}
 use native.Mathlib.Omega.{arith}
@@ -8,6 +8,7 @@ use lib.ListN.{length, set, length-set}
 use borrow.Author.Needs.{needs}
 use borrow.Rule.Slice.PartMut.{same-len-mid}
 use denote.Ref.{now}
+use Rattle.runs.proofs.Straight.{to-end}
 use Rattle.runs.proofs.TwoRuns.{stored-alone, stored-apart, stored-together}
 use Rattle.runs.proofs.runs.store_runs.Statement.{statement}
 use Rattle.runs.proofs.runs.store_runs.Tie as tie
@@ -26,7 +27,7 @@ same-length-2 : tie.Need-same-length-2
 same-length-2 c =
     let a = c .before .before .before .before .before .before .before .before .args in
     let m = set (now (a .buf)) (a .at) (a .header) in
-    same-len-mid 0 (2 + length (now (a .rest)) - 1 - 0) m (c .before .before .fill-tail .last .0) (c .before .before .fill-tail .kept .0) ∙ length-set (now (a .buf)) (a .at) (a .header)
+    same-len-mid 0 (0 + (2 + length (now (a .rest)) - 1) - 0) m (c .before .before .fill-tail .last .0) (c .before .before .fill-tail .kept .0) ∙ length-set (now (a .buf)) (a .at) (a .header)
 
 -- the end of the buffer falls between the first two
 returns-2 : tie.Need-returns-2
@@ -34,7 +35,7 @@ returns-2 c =
     let a = c .before .before .before .before .before .before .before .before .args in
     let r = now (a .rest) in
     rw (c .before .before .fill-tail .ensures)
-    (stored-apart (now (a .buf)) r (a .header) (a .word) (a .at) (2 + length r - 1 - 0) (omega arith) (omega arith))
+    (stored-apart (now (a .buf)) r (a .header) (a .word) (a .at) (0 + (2 + length r - 1) - 0) (omega arith) (omega arith))
 
 -- two runs, the first of which has them both
 returns-3 : tie.Need-returns-3
@@ -46,7 +47,8 @@ returns-3 c =
     let r = now (a .rest) in
     let l = first .before .before .before .before .if1 .left in
     let one = first .before .before .before .if2 .left in
-    stored-together b r _ _ (a .header) (a .word) (a .at) (start .pre .0) l one (rw sub-zero at (first .fill2 .ensures)) (c .before .before .copy-run .ensures)
+    let y = c .before .before .copy-run .ensures ∙ to-end (length b - a .at - 2) r in
+    stored-together b r (first .fill2 .last .0) (c .before .before .copy-run .last .0) (a .header) (a .word) (a .at) (0 + (length r - (length b - a .at - 2)) - 0) (start .pre .0) l one (omega arith) (rw sub-zero at (first .fill2 .ensures)) y
 
 pub store-runs-spec : {M : Type 1} → statement M
 store-runs-spec =
@@ -67,6 +69,7 @@ store-runs-spec =
     (λ c. search needs)
     (λ c. search needs)
     (λ c. search needs)
+    (λ c. search needs)
     part-fill-tail-end
     (λ c κs. search needs)
     same-length-2
@@ -80,6 +83,7 @@ store-runs-spec =
     (λ c. search needs)
     (λ c. search needs)
     (λ c κs. search needs)
+    (λ c. search needs)
     (λ c. search needs)
     (λ c. search needs)
     (λ c. search needs)
