@@ -15,7 +15,9 @@ for i, line in enumerate(open(jobs_file)):
 
 COLUMNS = [('guc', 'libguc'), ('wrap_inl', '(a)'), ('wrap_lib', "(a) call"), ('runs_inl', '(b)'),
            ('runs_lib', '(b) call'), ('plain', '(c)')]
-WORDS = {'send': 'send', 'receive': 'receive', 'turn': 'send, then receive', 'judge': 'image: judge, find uCode (two calls)',
+WORDS = {'send': 'send', 'receive': 'receive', 'turn': 'send, then receive', 'straight': '%s, straight',
+         'around': '%s, around the end', 'one_left': '%s, one place left before the end',
+         'judge': 'image: judge, find uCode (two calls)',
          'locate': 'image: find uCode (one call)', 'copy': 'image: copy uCode out',
          'few': 'directory: find the last of 16 entries', 'many': 'directory: find the last of 4,096 entries',
          'alike': 'directory: the same, names alike in eleven bytes'}
@@ -38,6 +40,8 @@ def row(what, n, l, first='guc', label=None):
 
 print('Each cell: ns (ratio to "(b) call") instructions, for one message, image or search.')
 print('(a) C, a wrap test per dword; (b) C, at most two memcpy runs; (c) memcpy alone; call: no memcpy opened in place.')
+print('Rows that say where a message lies (straight, around the end) have every message there; in the rows above them the ring')
+print('goes round, and one message in a round passes its end.')
 print('In the image and directory rows the plain C reader stands in the (b) columns.\n')
 print('| what | N | dwords | ' + ' | '.join(c for _, c in COLUMNS) + ' |')
 print('|---|---|---|' + '---|' * len(COLUMNS))
@@ -48,6 +52,10 @@ for what in ('send', 'receive', 'turn'):
 for what in ('send', 'receive', 'turn'):
     for n in (1024, 16384):
         row(what, n, 16, 'steps', WORDS[what] + ' in steps')
+for what in ('send', 'receive'):
+    for place in ('straight', 'around', 'one_left'):
+        for n in (1024, 16384):
+            row(what + '_' + place, n, 256, label=WORDS[place] % what)
 for what in ('judge', 'locate', 'copy', 'few', 'many', 'alike'):
     row(what, 0, 0)
 print()

@@ -8,10 +8,13 @@
 #include "loads.h"
 
 #define N 1024u
+#define MOST_N 16384u
 
 extern uint32_t sender[GUC_STATE_WORDS], receiver[GUC_STATE_WORDS];
-extern uint32_t desc[GUC_DESC_DWORDS], ring[N], msg[GUC_MESSAGE_DWORDS], out[GUC_MESSAGE_DWORDS];
+extern uint32_t desc[GUC_DESC_DWORDS], msg[GUC_MESSAGE_DWORDS], out[GUC_MESSAGE_DWORDS];
+extern uint32_t *const ring; /* with dwords before and behind it that no call may touch */
 extern size_t desc_len, n, msg_len, out_len;
+extern uint32_t ring_size; /* N; in some copies MOST_N */
 
 /* A channel with both sides at own and a message of len, pending or to be sent. */
 void lay(uint32_t own, uint32_t len, int pending);

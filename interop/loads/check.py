@@ -1,8 +1,9 @@
 """Holds a trace of the driver's calls against the table: check.py TABLE SAID TRACE
 
 SAID is what the driver said of its calls, TRACE what valgrind's lackey saw of
-every load and store. Prints a line for each word that was loaded otherwise
-than the table says, and a summary; exit status 1 if there was any.
+every instruction, load and store. Prints a line for each word that was loaded
+otherwise than the table says, and a summary; then how whole calls copied
+(copies.py); exit status 1 if anything was wrong.
 
 What this cannot see: lackey shows the archive's own instructions, one after
 another, for these inputs only; a processor may still reorder them, and another
@@ -15,9 +16,11 @@ import textwrap
 from collections import namedtuple
 from fnmatch import fnmatchcase
 
+from copies import judge_copies
+
 Rule = namedtuple('Rule', 'calls answers words least most')
 Order = namedtuple('Order', 'calls answers left right')
-Event = namedtuple('Event', 'load store at bytes')
+Event = namedtuple('Event', 'load store at bytes instruction')
 
 
 class Call:
@@ -60,13 +63,14 @@ def read_said(path):
 
 
 def read_trace(path, calls, mark):
-    """A store to the mark begins a call, the next one ends it."""
-    stores = 0
+    """A store to the mark begins a call, the next one ends it. An instruction comes before its loads and stores."""
+    stores = instructions = 0
     for line in open(path):
+        instructions += line[:1] == 'I'
         if line[:1] != ' ' or line[1] not in 'LSM':
             continue
         at, size = line[3:].split(',')
-        event = Event(line[1] != 'S', line[1] != 'L', int(at, 16), int(size))
+        event = Event(line[1] != 'S', line[1] != 'L', int(at, 16), int(size), instructions)
         if event.store and event.at == mark:
             stores += 1
         elif stores % 2:
@@ -153,7 +157,8 @@ def main():
     words = sum(len(call.lent) for call in calls)
     print('loads: %d calls of %d functions, %d lent words, %d not as the table says'
           % (len(calls), len({c.function for c in calls}), words, broken))
-    return 1 if wrong else 0
+    wrong_copies = judge_copies(calls)
+    return 1 if wrong or wrong_copies else 0
 
 
 sys.exit(main())

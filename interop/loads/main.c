@@ -54,6 +54,7 @@ int main(int argc, char **argv)
 		send_calls(look);
 		receive_calls(look);
 	}
+	copy_calls();
 	step_calls();
 	blob_calls();
 	return 0;

@@ -1,5 +1,6 @@
 /*
- * Whole calls and looks, accepted and refused by each number.
+ * Whole calls and looks, accepted and refused by each number; and whole calls
+ * with their messages at the places that tell how they copy.
  */
 #include "channel.h"
 
@@ -115,4 +116,35 @@ void receive_calls(int look)
 		receive(&good, places[k][0], places[k][1], look);
 	for (k = 0; k < count - (look ? 3 : 0); k++)
 		receive(&refused[k], 100, 5, look);
+}
+
+static void both(uint32_t own, uint32_t len)
+{
+	send(&good, own, len, 0);
+	receive(&good, own, len, 0);
+}
+
+/* Straight, from the ring's start, to its last place but one and its last, and around its end with so many left. */
+static void copies_of(uint32_t len)
+{
+	static const uint32_t left[] = { 1, 2, 3, 100, 254, 255 };
+	size_t k;
+
+	both(101, len);
+	both(0, len);
+	both(ring_size - len - 1, len);
+	both(ring_size - len, len);
+	for (k = 0; k < sizeof(left) / sizeof(left[0]) && left[k] < len; k++)
+		both(ring_size - left[k], len);
+}
+
+void copy_calls(void)
+{
+	static const uint32_t lengths[] = { 2, 3, 17, 256 };
+	size_t k;
+
+	for (ring_size = N; ring_size <= MOST_N; ring_size += MOST_N - N)
+		for (k = 0; k < sizeof(lengths) / sizeof(lengths[0]); k++)
+			copies_of(lengths[k]);
+	ring_size = N;
 }

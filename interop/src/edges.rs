@@ -7,6 +7,7 @@ pub mod directories;
 pub mod images;
 pub mod messages;
 pub mod names;
+pub mod places;
 
 use crate::functions::Fun;
 use crate::sets::Set;

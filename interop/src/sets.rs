@@ -1,6 +1,7 @@
 //! Sets of which every member must come up in a run.
 
 use crate::edges::names::{ONCE, SOUGHT, TWICE};
+use crate::edges::places::{lay_name, LAYS};
 use crate::guc::constants::*;
 
 #[derive(Clone, Copy, Debug, PartialEq, Eq)]
@@ -22,6 +23,13 @@ pub enum Set {
     Kind,
     SendLength,
     ReceiveLength,
+    // Of accepted whole calls.
+    SendLay,
+    ReceiveLay,
+    SendLeft,
+    ReceiveLeft,
+    SendAround,
+    ReceiveAround,
     // From here on the members are `TYPES`, of accepted messages.
     Packed,
     Unpacked,
@@ -58,6 +66,7 @@ impl Set {
         match self {
             Set::Once => of(&ONCE),
             Set::Twice => of(&TWICE),
+            Set::SendLay | Set::ReceiveLay => lay_name(index),
             _ if self.of_types() => TYPES[index].1.to_string(),
             _ => index.to_string(),
         }
@@ -65,7 +74,7 @@ impl Set {
 }
 
 /// Each with its name and how many members it has, in the order of `Set`.
-pub const SETS: [(Set, &str, usize); 24] = [
+pub const SETS: [(Set, &str, usize); 30] = [
     (Set::HeaderLength, "header length H, 0 to 255", 256),
     (Set::NameBit, "bit of an entry's name that alone is not the name sought", 96),
     (Set::ManifestBit, "bit of an entry's name that alone is not HUCP.man", 96),
@@ -82,6 +91,12 @@ pub const SETS: [(Set, &str, usize); 24] = [
     (Set::Kind, "HXG type, 0 to 7", 8),
     (Set::SendLength, "L of a send that is all that is free (less 2)", 255),
     (Set::ReceiveLength, "L of a receive that is all that is used (less 1)", 256),
+    (Set::SendLay, "L of guc_send, and where the buffer's end falls", LAYS),
+    (Set::ReceiveLay, "L of guc_receive, and where the buffer's end falls", LAYS),
+    (Set::SendLeft, "places to the end, guc_send of 256, 1 to 256 or more (less 1)", 257),
+    (Set::ReceiveLeft, "places to the end, guc_receive of 256, 1 to 256 or more (less 1)", 257),
+    (Set::SendAround, "L of guc_send around the end (less 2)", 255),
+    (Set::ReceiveAround, "L of guc_receive around the end (less 2)", 255),
     (Set::Packed, "types packed by guc_pack", TYPES.len()),
     (Set::Unpacked, "types unpacked by guc_unpack", TYPES.len()),
     (Set::SendLook, "types taken by guc_send_look", TYPES.len()),

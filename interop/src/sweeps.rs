@@ -13,12 +13,13 @@ use model::run::Case;
 type Sweep<T> = fn(&mut Rng) -> Vec<T>;
 
 /// Calls of the channel.
-const CALLS: [Sweep<Case>; 5] = [
+const CALLS: [Sweep<Case>; 6] = [
     generate::every_message_length,
     generate::every_type,
     generate::every_size,
     generate::every_descriptor,
     generate::every_state,
+    generate::every_place,
 ];
 
 /// CSS images.

@@ -19,6 +19,9 @@ const WITH_TYPES: [(Fun, Set); 6] = [
     (Fun::Receive, Set::Receive),
 ];
 
+/// The whole calls, with the sets of how their messages lie against the end.
+const WITH_LAYS: [(Fun, Set); 2] = [(Fun::Send, Set::SendLay), (Fun::Receive, Set::ReceiveLay)];
+
 #[test]
 fn every_group_for_a_moment() {
     for (index, group) in GROUPS.iter().enumerate() {
@@ -30,6 +33,11 @@ fn every_group_for_a_moment() {
         for (fun, set) in WITH_TYPES {
             let typed: u64 = tally.members.counts(set).iter().sum();
             assert_eq!(typed, tally.count(fun, 0), "{}: {set:?}, each accepted", group.name);
+        }
+        let of_calls = ["calls", "channels"].contains(&group.name);
+        for (fun, set) in WITH_LAYS.into_iter().filter(|_| of_calls) {
+            let laid: u64 = tally.members.counts(set).iter().sum();
+            assert_eq!(laid, tally.count(fun, 0), "{}: {set:?}, each accepted", group.name);
         }
     }
 }

@@ -5,6 +5,7 @@ use interop::edges::directories::{of_directory, of_manifest};
 use interop::edges::images::of_image;
 use interop::edges::messages::of_message;
 use interop::edges::names::{Sought, ONCE, TWICE};
+use interop::edges::places::{lay_name, of_place, LAYS};
 use interop::edges::{Edge, Stands, BOUNDARIES};
 use interop::functions::{Fun, FUNCTIONS};
 use interop::guc::constants::*;
@@ -12,6 +13,7 @@ use interop::sets::{Set, SETS, TYPES};
 use interop::tally::Tally;
 use model::channel::{HEAD, STATUS, TAIL};
 use model::message::{known, MALFORMED, TOO_WIDE};
+use model::run::Op;
 
 #[test]
 fn tables_are_in_order() {
@@ -123,6 +125,33 @@ fn names_stand_once_or_twice() {
     assert_eq!(twice(&[huc, away, other]), (Some(1), vec![TWICE[0], TWICE[5], TWICE[7]]));
     assert_eq!(twice(&[away, away]), (Some(1), vec![TWICE[0], TWICE[4], TWICE[8]]));
     assert_eq!(twice(&[huc, huc, there]), (None, vec![TWICE[3], TWICE[9]]));
+}
+
+#[test]
+fn messages_lie_against_the_end() {
+    let of = |op, length, left| {
+        let mut stands = Stands::default();
+        of_place(&mut stands, op, length, left);
+        stands.members
+    };
+    let lay = |length, left| lay_name(of(Op::SendWhole, length, left)[0].1);
+    assert_eq!(lay(8, 4), "others: end in the middle");
+    assert_eq!([lay(2, 1), lay(2, 2)], ["2: end behind the first dword", "2: ends at the end"]);
+    assert_eq!([lay(3, 2), lay(4, 3)], ["3: end behind the second", "4: end before the last"]);
+    let longest = [1, 2, 3, 254, 255, 256, 257].map(|left| lay(256, left));
+    let ends = ["behind the first dword", "behind the second", "in the middle", "in the middle"];
+    assert_eq!(longest[..4], ends.map(|end| format!("256: end {end}")));
+    assert_eq!(longest[4], "256: end before the last");
+    assert_eq!(longest[5..], ["256: ends at the end", "256: ends before the end"]);
+    let mut names: Vec<String> = (0..LAYS).map(lay_name).collect();
+    names.sort_unstable();
+    names.dedup();
+    assert_eq!(names.len(), LAYS);
+    let received = of(Op::ReceiveWhole, 256, 1000);
+    assert_eq!(received[1..], [(Set::ReceiveLeft, 256)], "none of those around the end");
+    let around = of(Op::SendWhole, 3, 2);
+    assert_eq!(around[1..], [(Set::SendAround, 1)]);
+    assert!(of(Op::SendLook, 256, 1).is_empty());
 }
 
 #[test]

@@ -9,6 +9,7 @@ mod directories;
 mod fields;
 mod list;
 mod message;
+mod places;
 mod repeats;
 mod state;
 mod wraps;
@@ -24,6 +25,7 @@ pub use directories::{
 pub use fields::{every_field, every_message};
 pub use list::{operations, output};
 pub use message::{fields, malformed, message, near_malformed, well_formed, well_formed_of};
+pub use places::every_place;
 pub use repeats::{
     every_misplaced_name, every_near_name, every_repeat, every_repeat_cut, every_repeated_length,
     every_uncounted_name,

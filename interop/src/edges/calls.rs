@@ -2,6 +2,7 @@
 //! lent, number by number: one counts only where no lower number applies.
 
 use super::messages::{known_type, of_message};
+use super::places::of_place;
 use super::{Edge, Stands};
 use crate::sets::Set;
 use model::channel::State;
@@ -57,11 +58,13 @@ fn of_receive_publish(stands: &mut Stands, case: &Case) {
     }
 }
 
-/// Number 13: the type decides where the header is good.
-fn of_received(stands: &mut Stands, header: u32, word: u32) {
-    if header & 0xFF00 == 0 && header & 0xFF > 0 {
+/// Number 13: the type decides where the header is good. Whether both are.
+fn of_received(stands: &mut Stands, header: u32, word: u32) -> bool {
+    let good = header & 0xFF00 == 0 && header & 0xFF > 0;
+    if good {
         stands.at(Edge::ReceivedType, (!known_type(word)) as u64, [0, 1]);
     }
+    good && known_type(word)
 }
 
 /// Number 5. Whether it passes.
@@ -150,13 +153,17 @@ fn of_look(stands: &mut Stands, case: &Case, n: u64) {
     }
 }
 
-/// Numbers 9, 10 and 11: what is used and free, and L.
+/// Numbers 9, 10 and 11: what is used and free, and L. Then the message's place.
 fn of_lengths(stands: &mut Stands, case: &Case, n: u64, used: u64) {
+    let left = (n - case.state.own as u64) as usize;
     if case.op.sends() {
         let free = n - 1 - used;
         stands.at(Edge::Free, case.msg.len() as u64, [free, free + 1]);
         if case.msg.len() as u64 == free {
             stands.member(Set::SendLength, case.msg.len() - 2);
+        }
+        if case.msg.len() as u64 <= free {
+            of_place(stands, case.op, case.msg.len(), left);
         }
         return;
     }
@@ -169,8 +176,8 @@ fn of_lengths(stands: &mut Stands, case: &Case, n: u64, used: u64) {
         if length == used {
             stands.member(Set::ReceiveLength, used as usize - 1);
         }
-        if length <= used {
-            of_received(stands, header, word);
+        if length <= used && of_received(stands, header, word) {
+            of_place(stands, case.op, length as usize, left);
         }
     }
 }
