@@ -10,6 +10,7 @@ use Rattle.message.specs.Packing.{Answer, packAnswer, unpackAnswer}
 use Rattle.message.specs.declared.Message.{Message}
 use Rattle.message.specs.declared.Origin.the-variants.{Host, Guc}
 use Rattle.message.specs.declared.Body.the-variants.{Request, Event, FastRequest, Busy, Retry, Failure, Success}
+use Rattle.runs.specs.TwoRuns.{firstCount, secondCount, storedRuns}
 use Rattle.ring.specs.Ring.{head, tail, free}
 use Rattle.channel.specs.State.{State, state, idleAt}
 use Rattle.channel.specs.Outcome.{Outcome, refused}
@@ -56,6 +57,10 @@ opens s r d b = record { code = 0; sender = s; receiver = r; desc = d; buf = b }
 -- free by a descriptor's HEAD and TAIL
 abbrev pub freeBy : List ℕ → ℕ
 freeBy d = free 1024 (head d) (tail d)
+
+-- the dwords of the first and of the second run of k from place i on, at N = 1,024
+abbrev pub runs : ℕ → ℕ → ℕ × ℕ
+runs i k = (firstCount 1024 i k, secondCount 1024 i k)
 
 -- a part: the byte where it starts, and the byte where it ends, which is excluded
 abbrev pub Part : Type 0
@@ -167,6 +172,16 @@ table =
     -- '.. TAIL 4.'
     ∷ (Send.publishAfter (stores 8) is accepted (idleAt 1024 4) (descriptorWith 1020 4 0) around)
     ∷ (Send.whole (idleAt 1024 1020) (dwords 8) (descriptorWith 1020 1020 0) buffer is accepted (idleAt 1024 4) (descriptorWith 1020 4 0) around)
+    -- T-07, '.. in at most two straight runs': the same message, and the same buffer. Ours: 8 that end one place before the end and at it are one run, one dword more
+    -- is the second; the end between the judged dwords, and behind them.
+    ∷ (runs 1020 8 is (4, 4))
+    ∷ (storedRuns buffer 1020 (dwords 8) is around)
+    ∷ (runs 1015 8 is (8, 0))
+    ∷ (runs 1016 8 is (8, 0))
+    ∷ (runs 1017 8 is (7, 1))
+    ∷ (runs 1023 2 is (1, 1))
+    ∷ (runs 1023 256 is (1, 255))
+    ∷ (runs 1022 256 is (2, 254))
     -- 'P TAIL 1,024 at N = 1,024: 7, STATUS 1.', at a send's look and at a receive's
     ∷ (Send.look (idleAt 1024 0) (dwords 2) (descriptorWith 0 1024 0) buffer is refused 7 (idleAt 1024 0) (descriptorWith 0 1024 1) buffer [])
     ∷ (Receive.look (idleAt 1024 0) (descriptorWith 0 1024 0) buffer is refused 7 (idleAt 1024 0) (descriptorWith 0 1024 1) buffer [])

@@ -3,7 +3,7 @@ use Prim.Native.Nat.{ℕ, suc, _+_, _-_, _%_, _≤_, _<_, min}
 use mathlib.Core.Path.{_≡_, refl, sym, ap, _∙_}
 use mathlib.Core.List.{List, [], _∷_, _++_, append-nil}
 use native.Mathlib.Decide.{decLt}
-use native.Mathlib.Nat.{add-mod-left, min-eq-left, min-eq-right, mod-eq-of-lt, mod-lt, mod-mod, sub-zero}
+use native.Mathlib.Nat.{add-mod-left, min-eq-left, min-eq-right, mod-eq-of-lt, mod-lt, mod-mod}
 use native.Mathlib.Omega.{arith}
 use lib.ListN.{length, set, take, drop, drop-of-length-le, length-append, length-drop, length-set, length-take}
 use lib.Seq.{take-all, take-at, drop-drop, length-take-le}
@@ -11,7 +11,7 @@ use borrow.Rule.Slice.PartMut.{midOf, putMid}
 use Rattle.runs.specs.Buffer.{window, stored}
 use Rattle.runs.specs.TwoRuns.{firstCount, secondCount, runOf, withRun, storedRuns, readRuns}
 use Rattle.runs.proofs.Ring.{window-mod, stored-length}
-use Rattle.runs.proofs.Straight.{to-end, two-then, stored-straight, stored-around, stored-single, window-straight, window-around}
+use Rattle.runs.proofs.Straight.{two-then, stored-straight, stored-around, stored-single, window-straight, window-around}
 
 -- the first run has all the dwords, or goes to the end
 module _ (n i k : ℕ) where
