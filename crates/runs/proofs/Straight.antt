@@ -1,11 +1,11 @@
 -- Runs of dwords: what the loops over them have after a turn, and a run around the ring as one or two straight ones. Assumes nothing.
 use Prim.Native.Nat.{ℕ, zero, suc, _+_, _-_, _%_, _≤_, _<_}
 use mathlib.Core.Path.{_≡_, refl, sym, ap, _∙_}
-use mathlib.Core.List.{List, [], _∷_, _++_, append-assoc, append-nil}
+use mathlib.Core.List.{List, [], _∷_, _++_, append-assoc}
 use native.Mathlib.Nat.{sub-zero, zero-sub, suc-sub-suc, zero-mod, mod-self, mod-eq-of-lt, suc-mod}
 use native.Mathlib.Numerals.{add-one}
 use native.Mathlib.Omega.{arith}
-use lib.ListN.{length, getD, set, take, drop, replicate, drop-of-length-le, take-append-drop, length-drop, length-take}
+use lib.ListN.{length, getD, set, take, drop, replicate, take-append-drop, length-drop, length-take}
 use lib.Seq.{take-all, take-suc, drop-cons, drop-drop, drop-append-le, append-snoc, set-at, length-take-le, sets, sets-eq}
 use borrow.Author.Tests.{le-leb, lt-leb, le-ltb, lt-ltb}
 use borrow.Rule.Slice.PartMut.{midOf, putMid}
@@ -117,28 +117,6 @@ two-then (x ∷ []) h s len w l k = absurd (omega arith)
 two-then (x ∷ y ∷ o) h s zero w l k = absurd (omega arith)
 two-then (x ∷ y ∷ o) h s (suc zero) w l k = absurd (omega arith)
 two-then (x ∷ y ∷ o) h s (suc (suc len)) w l k = let e : suc (suc len) - 2 ≡ len = omega arith in rw e
-
--- a part from place 1 on, behind one dword
-one-then : (out : List ℕ) (h len : ℕ) (w : List ℕ) → 1 ≤ len → len ≤ length out → putMid 1 (len - 1) (set out 0 h) w ≡ h ∷ (w ++ drop len out)
-one-then [] h len w l k = absurd (omega arith)
-one-then (x ∷ o) h zero w l k = absurd (omega arith)
-one-then (x ∷ o) h (suc len) w l k = let e : suc len - 1 ≡ len = omega arith in rw e
-
--- a run that fills all of dst, behind two dwords and behind one
-pub filled : (dst : List ℕ) (h s : ℕ) (w : List ℕ) → length dst ≡ 2 + length w → putMid 2 (length dst - 2) (set (set dst 0 h) 1 s) w ≡ h ∷ s ∷ w
-filled dst h s w e =
-    let z : drop (length dst) dst ≡ [] = drop-of-length-le dst {i = length dst} (omega arith) in
-    rw (two-then dst h s (length dst) w (omega arith) (omega arith), z, append-nil)
-
-pub filled-tail : (dst : List ℕ) (h : ℕ) (w : List ℕ) → length dst ≡ 1 + length w → putMid 1 (length dst - 1) (set dst 0 h) w ≡ h ∷ w
-filled-tail dst h w e =
-    let z : drop (length dst) dst ≡ [] = drop-of-length-le dst {i = length dst} (omega arith) in
-    rw (one-then dst h (length dst) w (omega arith) (omega arith), z, append-nil)
-
--- dwords that fill the front of dst are laid there
-pub laid-run : (dst : List ℕ) (k : ℕ) (xs : List ℕ) → length xs ≡ k → k ≤ length dst → putMid 0 k dst xs ≡ laid xs dst
-unfolding laid
-laid-run dst k xs l h = let e : length xs ≤ length dst = omega arith in rw (le-leb _ _ e, l)
 
 -- dwords for which there is room are laid
 pub laid-there : (xs o : List ℕ) → length xs ≤ length o → laid xs o ≡ xs ++ drop (length xs) o

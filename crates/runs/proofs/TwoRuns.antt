@@ -1,17 +1,18 @@
 -- Dwords in their runs: what one after another around the end of the buffer comes to. Assumes nothing.
 use Prim.Native.Nat.{ℕ, suc, _+_, _-_, _%_, _≤_, _<_, min}
 use mathlib.Core.Path.{_≡_, refl, sym, ap, _∙_}
-use mathlib.Core.List.{List, [], _∷_, _++_, append-nil}
+use mathlib.Core.List.{List, [], _∷_, _++_, append-assoc, append-nil}
 use native.Mathlib.Decide.{decLt}
-use native.Mathlib.Nat.{add-mod-left, min-eq-left, min-eq-right, mod-eq-of-lt, mod-lt, mod-mod}
+use native.Mathlib.Nat.{add-mod-left, min-eq-left, min-eq-right, mod-eq-of-lt, mod-lt, mod-mod, sub-zero, zero-add}
+use native.Mathlib.Numerals.{add-one}
 use native.Mathlib.Omega.{arith}
 use lib.ListN.{length, set, take, drop, drop-of-length-le, length-append, length-drop, length-set, length-take}
-use lib.Seq.{take-all, take-at, drop-drop, length-take-le}
+use lib.Seq.{take-all, take-at, take-suc-set, drop-drop, drop-set-lt, length-take-le}
 use borrow.Rule.Slice.PartMut.{midOf, putMid}
-use Rattle.runs.specs.Buffer.{window, stored}
+use Rattle.runs.specs.Buffer.{window, stored, laid}
 use Rattle.runs.specs.TwoRuns.{firstCount, secondCount, runOf, withRun, storedRuns, readRuns}
 use Rattle.runs.proofs.Ring.{window-mod, stored-length}
-use Rattle.runs.proofs.Straight.{two-then, stored-straight, stored-around, stored-single, window-straight, window-around}
+use Rattle.runs.proofs.Straight.{laid-there, to-end, two-then, stored-straight, stored-around, stored-single, window-straight, window-around}
 
 -- the first run has all the dwords, or goes to the end
 module _ (n i k : ℕ) where
@@ -83,7 +84,7 @@ unfolding withRun
 none-left b = refl
 
 -- dwords that are all in the first run
-alone : (b : List ℕ) (i : ℕ) (xs : List ℕ) → length xs ≤ length b - i → withRun b i xs ≡ storedRuns b i xs
+pub alone : (b : List ℕ) (i : ℕ) (xs : List ℕ) → length xs ≤ length b - i → withRun b i xs ≡ storedRuns b i xs
 alone b i xs h =
     let a : take (length xs) xs ≡ xs = take-all (length xs) xs (omega arith) in
     let z : drop (length xs) xs ≡ [] = drop-of-length-le xs {i = length xs} (omega arith) in
@@ -163,44 +164,49 @@ others-read b i k l h =
     let m : (i + 2) % n < n = mod-lt (i + 2) (omega arith) in
     window-mod b n (i + 2) ((i + 2) % n) k (sym (mod-mod (i + 2) n)) ∙ read-in-runs b ((i + 2) % n) k m h
 
--- what `store_runs` stores: dwords that are all in the first run
-pub stored-alone : (b : List ℕ) (i k : ℕ) (xs : List ℕ) → length xs ≡ k → i + k ≤ length b → putMid i k b xs ≡ storedRuns b i xs
-stored-alone b i k xs l h = put-run b i k xs l ∙ alone b i xs (omega arith)
+-- a run that a dword by value opens
+pub opened : (b : List ℕ) (i h : ℕ) (xs : List ℕ) → i < length b → withRun (set b i h) (i + 1) xs ≡ withRun b i (h ∷ xs)
+unfolding withRun
+opened b i h xs l =
+    let e : i + 1 + length xs ≡ i + suc (length xs) = omega arith in
+    let t : take (i + 1) (set b i h) ≡ take i b ++ (h ∷ []) = rw add-one (take-suc-set b i h l) in
+    let d : drop (i + suc (length xs)) (set b i h) ≡ drop (i + suc (length xs)) b = drop-set-lt (i + suc (length xs)) b i h (omega arith) in
+    rw (e, t, d) (append-assoc (take i b) (h ∷ []) _)
 
--- two dwords by value and the others, k of them all before the end and those that are left from the front on
+-- what `store_runs` stores: two dwords by value and the others, as many as lie before the end, and those that are left from z on, which is the front
 pub stored-together :
-    (b r m y : List ℕ) (h w i j : ℕ) → let k = length b - i in i < length b → k < 2 + length r → (k ≡ 1 → ⊥) → j ≡ length r - (k - 2)
-    → m ≡ h ∷ w ∷ take (k - 2) r → y ≡ drop (k - 2) r → putMid 0 j (putMid i k b m) y ≡ storedRuns b i (h ∷ w ∷ r)
-stored-together b r m y h w i j l t o q v u =
+    (b r after m : List ℕ) (h w i : ℕ) {z : ℕ} → let k = length b - i in after ≡ withRun m z (take (length r - (k - 2)) (drop (k - 2) r)) → z ≡ 0
+    → m ≡ withRun b i (h ∷ w ∷ take (k - 2) r) → i < length b → k < 2 + length r → (k ≡ 1 → ⊥) → after ≡ storedRuns b i (h ∷ w ∷ r)
+stored-together b r after m h w i u e v l t o =
     let k = length b - i in
-    let f = k - 2 in
-    let p : k ≡ 2 + f = omega arith in
-    let x : length (take f r) ≡ f = length-take-le f r (omega arith) in
-    let a : length (h ∷ w ∷ take f r) ≡ k = ap (λ (n : ℕ). suc (suc n)) x ∙ omega arith in
-    let d : length (drop f r) ≡ j = length-drop f r ∙ sym q in
-    rw (v, u)
-    (put-run _ 0 j (drop f r) d
-    ∙ ap (λ (n : List ℕ). withRun n 0 (drop f r)) (put-run b i k (h ∷ w ∷ take f r) a)
-    ∙ sym (together b i h w r f (first-to-end _ _ _ (omega arith) ∙ p)))
+    let p : k ≡ 2 + (k - 2) = omega arith in
+    rw (u, to-end (k - 2) r, v, e) (sym (together b i h w r (k - 2) (first-to-end _ _ _ (omega arith) ∙ p)))
 
--- or one by value in the first run, and the other with the others in the second
+-- or one by value before the end, and the other with the others from z on
 pub stored-apart :
-    (b r : List ℕ) (h w i j : ℕ) → i + 1 ≡ length b → j ≡ 1 + length r → putMid 0 j (set b i h) (w ∷ r) ≡ storedRuns b i (h ∷ w ∷ r)
-stored-apart b r h w i j e q =
+    (b r after : List ℕ) (h w i : ℕ) {z : ℕ} → after ≡ withRun (set b i h) z (w ∷ r) → z ≡ 0 → i + 1 ≡ length b → after ≡ storedRuns b i (h ∷ w ∷ r)
+stored-apart b r after h w i u e f =
     let s : set b i h ≡ withRun b i (h ∷ []) = stored-single b i h (omega arith) ∙ stored-run b (length b) i (h ∷ []) (omega arith) (omega arith) in
-    put-run _ 0 j (w ∷ r) (omega arith) ∙ ap (λ (n : List ℕ). withRun n 0 (w ∷ r)) s ∙ sym (judged-apart b i h w r e)
+    rw (u, e, s) (sym (judged-apart b i h w r f))
 
--- what `load_runs` reads: k dwords to the front of dst, and from the buffer's front on as many others as it has places behind them
+-- what `load_runs` reads: k dwords to the front of dst, and from z on, which is the buffer's front, as many others as it has places behind them
 pub read-together :
-    (dst b d x y : List ℕ) (i : ℕ) → let k = length b - i in i < length b → k < length dst → x ≡ runOf b i k → y ≡ runOf b 0 (length dst - k)
-    → d ≡ putMid 0 k dst x → putMid k (length d - k) d y ≡ readRuns b i (length dst)
-read-together dst b d x y i l h u v p =
+    (dst b d x y : List ℕ) (i : ℕ) {z : ℕ} → let k = length b - i in y ≡ runOf b z (length (midOf k (length d - k) d)) → z ≡ 0
+    → x ≡ runOf b i (length (midOf 0 (k - 0) dst)) → d ≡ putMid 0 (k - 0) dst x → i < length b → k < length dst → putMid k (length d - k) d y ≡ readRuns b i (length dst)
+read-together dst b d x y i v e u p l h =
     let k = length b - i in
-    let a : length x ≡ k = ap length u ∙ length-run b i k (omega arith) in
-    let s : length d ≡ length dst = ap length p ∙ simp (length-append, length-drop) (omega arith) in
+    let q : length (midOf 0 (k - 0) dst) ≡ k = simp (sub-zero, length-take) (omega arith) in
+    let a : length x ≡ k = ap length u ∙ length-run b i _ (omega arith) ∙ q in
+    let s : length d ≡ length dst = ap length p ∙ simp (sub-zero, length-append, length-drop) (omega arith) in
+    let c : length (midOf k (length d - k) d) ≡ length dst - k = simp (length-take, length-drop) (omega arith) in
     let t : take k d ≡ x = ap (take k) p ∙ take-at _ _ k a in
     let w : drop (length d - k) (drop k d) ≡ [] = drop-of-length-le (drop k d) {i = length d - k} (simp length-drop (omega arith)) in
-    rw (t, w, append-nil, u, v) (sym (read-by b i (length dst) k (first-to-end _ _ _ (omega arith))))
+    rw (t, w, append-nil, u, v, e, q, c) (sym (read-by b i (length dst) k (first-to-end _ _ _ (omega arith))))
+
+-- a run at the front is laid there
+pub laid-run : (dst xs : List ℕ) → length xs ≤ length dst → withRun dst 0 xs ≡ laid xs dst
+unfolding withRun
+laid-run dst xs h = rw (laid-there xs dst h, zero-add)
 
 -- what `lay_rest` lays: two dwords by value, and behind them those that are read from two places further on
 pub laid-behind :

@@ -1,19 +1,19 @@
 // Straight runs of dwords: a message goes into the ring, and out of it, in one or in two. The first two dwords of a message were judged, so they
-// are given by value and never read here; a run is lent just the places that it fills.
+// are given by value and never read here; what copies is lent just the places that it fills.
 ghost use mathlib.Core.Path.{_≡_};
 ghost use mathlib.Core.List.{_∷_, _++_};
 ghost use Prim.Native.Nat.{_+_, _-_, _≤_, _<_};
 ghost use lib.ListN.{length, drop};
 ghost use Rattle.runs.specs.Buffer;
 ghost use Rattle.runs.specs.Buffer.{window, storedAt, laid, laidFrom};
-ghost use Rattle.runs.specs.TwoRuns.{storedRuns, readRuns};
+ghost use Rattle.runs.specs.TwoRuns.{runOf, withRun, storedRuns, readRuns};
 use crate::offset::N_MAX;
 use crate::offset::past;
 
-// Where the second run starts: at the buffer's first dword.
+// Where a second run starts: at the buffer's first dword.
 const FRONT: usize = 0;
 
-// Fills dst with the dwords of src: a straight run, with no test but its end.
+// Fills dst with the dwords of src. Its only test is its end: it knows neither a buffer nor a place.
 fn copy_run(dst: &mut [u32], src: &[u32])
     requires { ⌜ length (now dst) ≡ length (now src) ⌝ }
     ensures { λ _. ⌜ now (dst .exit) ≡ now (src .entry) ⌝ }
@@ -25,25 +25,31 @@ fn copy_run(dst: &mut [u32], src: &[u32])
     }
 }
 
-// Fills dst with a message of these two dwords and the others.
-fn fill(dst: &mut [u32], header: u32, word: u32, rest: &[u32])
-    requires { ⌜ length (now dst) ≡ 2 + length (now rest) ⌝ }
-    ensures { λ _. ⌜ now (dst .exit) ≡ header ∷ word ∷ now (rest .entry) ⌝ }
+// Stores a straight run of dwords from place `at` on.
+fn store_run(buf: &mut [u32], at: usize, src: &[u32])
+    requires { ⌜ at + length (now src) ≤ length (now buf) ⌝ }
+    ensures { λ _. ⌜ now (buf .exit) ≡ withRun (now (buf .entry)) at (now (src .entry)) ⌝ }
 {
-    let len = dst.len();
-    dst[0] = header;
-    dst[1] = word;
-    copy_run(&mut dst[2..len], rest);
+    let end = at + src.len();
+    copy_run(&mut buf[at..end], src);
 }
 
-// Fills dst with what follows the header of a message.
-fn fill_tail(dst: &mut [u32], word: u32, rest: &[u32])
-    requires { ⌜ length (now dst) ≡ 1 + length (now rest) ⌝ }
-    ensures { λ _. ⌜ now (dst .exit) ≡ word ∷ now (rest .entry) ⌝ }
+// Stores a run that a dword given by value opens.
+fn store_opened(buf: &mut [u32], at: usize, word: u32, rest: &[u32])
+    requires { ⌜ at + (1 + length (now rest)) ≤ length (now buf) ⌝ }
+    ensures { λ _. ⌜ now (buf .exit) ≡ withRun (now (buf .entry)) at (word ∷ now (rest .entry)) ⌝ }
 {
-    let len = dst.len();
-    dst[0] = word;
-    copy_run(&mut dst[1..len], rest);
+    buf[at] = word;
+    store_run(buf, at + 1, rest);
+}
+
+// Stores a run that the two judged dwords of a message open.
+fn store_judged(buf: &mut [u32], at: usize, header: u32, word: u32, rest: &[u32])
+    requires { ⌜ at + (2 + length (now rest)) ≤ length (now buf) ⌝ }
+    ensures { λ _. ⌜ now (buf .exit) ≡ withRun (now (buf .entry)) at (header ∷ word ∷ now (rest .entry)) ⌝ }
+{
+    buf[at] = header;
+    store_opened(buf, at + 1, word, rest);
 }
 
 // Lays a message of these two dwords and the others at the front of dst, or nothing where it does not fit.
@@ -56,8 +62,7 @@ pub fn lay(dst: &mut [u32], header: u32, word: u32, rest: &[u32])
     if dst.len() - 2 < rest.len() {
         return;
     }
-    let end = 2 + rest.len();
-    fill(&mut dst[0..end], header, word, rest);
+    store_judged(dst, 0, header, word, rest);
 }
 
 // Lays a receiver's own copy of a message at the front of the output, and returns the head to publish. It is lent neither ring nor descriptor.
@@ -84,22 +89,19 @@ fn store_runs(buf: &mut [u32], at: usize, header: u32, word: u32, rest: &[u32])
     let len = 2 + rest.len();
     let room = buf.len() - at;
     if len <= room {
-        let end = at + len;
-        fill(&mut buf[at..end], header, word, rest);
+        store_judged(buf, at, header, word, rest);
         return;
     }
     if room == 1 {
-        let end = FRONT + (len - 1);
         buf[at] = header;
-        fill_tail(&mut buf[FRONT..end], word, rest);
+        store_opened(buf, FRONT, word, rest);
         return;
     }
+    // The second run goes on where the first stopped.
     let taken = room - 2;
-    fill(&mut buf[at..], header, word, &rest[0..taken]);
     let next = taken;
-    let others = rest.len();
-    let end = FRONT + (others - next);
-    copy_run(&mut buf[FRONT..end], &rest[next..others]);
+    store_judged(buf, at, header, word, &rest[0..taken]);
+    store_run(buf, FRONT, &rest[next..]);
 }
 
 // Stores a message of these two dwords and the others in the ring from place `at` on, or nothing where it does not fit, and returns the tail to publish. It is
@@ -119,20 +121,26 @@ pub fn store_message(buf: &mut [u32], at: usize, header: u32, word: u32, rest: &
     tail
 }
 
+// Fills dst with a straight run of dwords of the ring, from place `at` on.
+fn load_run(dst: &mut [u32], buf: &[u32], at: usize)
+    requires { ⌜ at + length (now dst) ≤ length (now buf) ⌝ }
+    ensures { λ _. ⌜ now (dst .exit) ≡ runOf (now (buf .entry)) at (length (now (dst .entry))) ⌝ }
+{
+    let end = at + dst.len();
+    copy_run(dst, &buf[at..end]);
+}
+
 // Fills dst with the dwords of the ring from place `at` on, read in their runs.
 fn load_runs(dst: &mut [u32], buf: &[u32], at: usize)
     requires { ⌜ (at < length (now buf)) × (length (now dst) ≤ length (now buf)) ⌝ }
     ensures { λ _. ⌜ now (dst .exit) ≡ readRuns (now (buf .entry)) at (length (now (dst .entry))) ⌝ }
 {
     let room = buf.len() - at;
-    let count = dst.len();
-    if count <= room {
-        let end = at + count;
-        copy_run(dst, &buf[at..end]);
+    if dst.len() <= room {
+        load_run(dst, buf, at);
     } else {
-        let end = FRONT + (count - room);
-        copy_run(&mut dst[0..room], &buf[at..]);
-        copy_run(&mut dst[room..], &buf[FRONT..end]);
+        load_run(&mut dst[0..room], buf, at);
+        load_run(&mut dst[room..], buf, FRONT);
     }
 }
 
