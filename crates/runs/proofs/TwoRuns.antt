@@ -175,12 +175,12 @@ opened b i h xs l =
 
 -- what `store_runs` stores: two dwords by value and the others, as many as lie before the end, and those that are left from z on, which is the front
 pub stored-together :
-    (b r after m : List ℕ) (h w i : ℕ) {z : ℕ} → let k = length b - i in after ≡ withRun m z (take (length r - (k - 2)) (drop (k - 2) r)) → z ≡ 0
+    (b r after m : List ℕ) (h w i : ℕ) {z : ℕ} {y : List ℕ} → let k = length b - i in after ≡ withRun m z y → z ≡ 0 → y ≡ take (length r - (k - 2)) (drop (k - 2) r)
     → m ≡ withRun b i (h ∷ w ∷ take (k - 2) r) → i < length b → k < 2 + length r → (k ≡ 1 → ⊥) → after ≡ storedRuns b i (h ∷ w ∷ r)
-stored-together b r after m h w i u e v l t o =
+stored-together b r after m h w i u e x v l t o =
     let k = length b - i in
     let p : k ≡ 2 + (k - 2) = omega arith in
-    rw (u, to-end (k - 2) r, v, e) (sym (together b i h w r (k - 2) (first-to-end _ _ _ (omega arith) ∙ p)))
+    rw (u, x, to-end (k - 2) r, v, e) (sym (together b i h w r (k - 2) (first-to-end _ _ _ (omega arith) ∙ p)))
 
 -- or one by value before the end, and the other with the others from z on
 pub stored-apart :

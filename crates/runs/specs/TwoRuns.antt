@@ -40,7 +40,7 @@ pub record TwoRuns : Type 0 where
   pub one : (n i k : ℕ) → i + k ≤ n → secondCount n i k ≡ 0
   pub none : (b : List ℕ) → withRun b 0 [] ≡ b
   pub two : (n i k : ℕ) → i < n → k ≤ n → n < i + k → i + firstCount n i k ≡ n
-  -- stored or read in runs, dwords come to what they are one by one, so that 'its promise, its callers and single steps stay'
+  -- stored or read in runs, dwords come to what they are one by one: 'Its promise, its callers and single steps stay.'
   pub stored-in-runs :
       (b : List ℕ) (i : ℕ) (xs : List ℕ) → i < length b → length xs ≤ length b → stored b (length b) i xs ≡ storedRuns b i xs
   pub read-in-runs : (b : List ℕ) (i k : ℕ) → i < length b → k ≤ length b → window b (length b) i k ≡ readRuns b i k

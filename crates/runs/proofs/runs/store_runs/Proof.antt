@@ -1,5 +1,5 @@
 -- `runs::store_runs` meets its contract: one straight run, or two. Assumes nothing.
-use mathlib.Core.Path.{_∙_}
+use mathlib.Core.Path.{refl, _∙_}
 use mathlib.Core.List.{_∷_}
 use native.Mathlib.Nat.{sub-zero}
 use native.Mathlib.Omega.{arith}
@@ -28,7 +28,7 @@ same-length-2 c =
 returns-2 : tie.Need-returns-2
 returns-2 c =
     let a = c .before .before .before .before .before .before .before .before .args in
-    stored-apart (now (a .buf)) (now (a .rest)) _ (a .header) (a .word) (a .at) (c .before .before .store-opened .ensures) (omega arith) (omega arith)
+    stored-apart (now (a .buf)) (now (a .rest)) _ (a .header) (a .word) (a .at) (c .before .before .store-opened .ensures) refl (omega arith)
 
 store-judged-requires-2 : tie.Need-store-judged-requires-2
 store-judged-requires-2 c κs = simp length-take (omega arith)
@@ -41,7 +41,7 @@ returns-3 c =
     let a = start .args in
     let l = first .before .before .before .before .if1 .left in
     let one = first .before .before .before .if2 .left in
-    stored-together (now (a .buf)) (now (a .rest)) _ _ (a .header) (a .word) (a .at) (c .before .before .store-run .ensures) (omega arith) (rw sub-zero at (first .store-judged2 .ensures)) (start .pre .0) l one
+    stored-together (now (a .buf)) (now (a .rest)) _ _ (a .header) (a .word) (a .at) (c .before .before .store-run .ensures) refl refl (rw sub-zero at (first .store-judged2 .ensures)) (start .pre .0) l one
 
 pub store-runs-spec : {M : Type 1} → statement M
 store-runs-spec =
