@@ -34,10 +34,10 @@ static int less(const void *a, const void *b)
     double x = *(const double *)a, y = *(const double *)b;
     return (x > y) - (x < y);
 }
-void say(const char *what, const char *name, double times[ROUNDS])
+void say(const char *what, const char *name, double times[SAMPLES])
 {
-    qsort(times, ROUNDS, sizeof *times, less);
-    printf("%s %zu %zu %s %.2f\n", what, N, L, name, times[ROUNDS / 2]);
+    qsort(times, SAMPLES, sizeof *times, less);
+    printf("%s %zu %zu %s %.2f\n", what, N, L, name, times[SAMPLES / 2]);
 }
 
 // The counter writes a record at each call of this: one before and one after every job.
@@ -58,7 +58,7 @@ int main(int argc, char **argv)
     int time = argc == 2 && !strcmp(argv[1], "time");
     if (!time && (argc != 2 || strcmp(argv[1], "count"))) { fputs("usage: bench time | count\n", stderr); return 2; }
     for (int i = 0; i < FILES; i++) if (all[i]->prepare) all[i]->prepare();
-    for (int r = 0; time && r < ROUNDS; r++) for (int i = 0; i < FILES; i++) all[i]->time(r);
+    for (int r = 0; time && r < SAMPLES; r++) for (int i = 0; i < FILES; i++) all[i]->time(r);
     for (int i = 0; i < FILES; i++) if (time) all[i]->say(); else all[i]->count();
     return 0;
 }

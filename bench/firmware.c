@@ -66,7 +66,7 @@ static const struct job { const char *what, *name; block run; size_t k; } jobs[]
     {"alike", "guc", alike_guc, 50}, {"alike", "runs_inl", alike_inl, 50}, {"alike", "runs_lib", alike_lib, 50},
     {"copy", "guc", fw_guc_copy, 2}, {"copy", "runs_inl", fw_copy_inl, 2}, {"copy", "runs_lib", fw_copy_lib, 2}};
 enum { JOBS = sizeof jobs / sizeof *jobs };
-static double t[JOBS][ROUNDS];
+static double t[JOBS][SAMPLES];
 
 static void put(uint8_t *at, uint32_t value) { for (int i = 0; i < 4; i++) at[i] = value >> 8 * i; }
 static void lay_image(void)

@@ -30,7 +30,7 @@ static const struct spot { const char *send, *receive; size_t left; } spots[] = 
 };
 static const size_t sizes[] = {1024, 16384};
 enum { VARIANTS = sizeof variants / sizeof *variants, SPOTS = sizeof spots / sizeof *spots };
-static double t[2][SPOTS][VARIANTS][2][ROUNDS];
+static double t[2][SPOTS][VARIANTS][2][SAMPLES];
 
 // Sets the row's N, L and place. (c) has no way around the end.
 static int wanted(int a, const struct spot *s, const struct variant *v)

@@ -57,7 +57,7 @@ static void full(void)
 }
 
 static const size_t sizes[] = {1024, 16384}, lengths[] = {2, 16, 256};
-static double t[2][3][VARIANTS][3][ROUNDS];
+static double t[2][3][VARIANTS][3][SAMPLES];
 // Sets the row's N and L. Steps are measured at 16 dwords only.
 static int wanted(int a, int b, const struct variant *v)
 {

@@ -1,7 +1,7 @@
 //! Sets of which every member must come up in a run.
 
 use crate::edges::names::{ONCE, SOUGHT, TWICE};
-use crate::edges::places::{lay_name, LAYS};
+use crate::edges::places::{place_name, PLACES};
 use crate::guc::constants::*;
 
 #[derive(Clone, Copy, Debug, PartialEq, Eq)]
@@ -24,8 +24,8 @@ pub enum Set {
     SendLength,
     ReceiveLength,
     // Of accepted whole calls.
-    SendLay,
-    ReceiveLay,
+    SendPlace,
+    ReceivePlace,
     SendLeft,
     ReceiveLeft,
     SendAround,
@@ -66,7 +66,7 @@ impl Set {
         match self {
             Set::Once => of(&ONCE),
             Set::Twice => of(&TWICE),
-            Set::SendLay | Set::ReceiveLay => lay_name(index),
+            Set::SendPlace | Set::ReceivePlace => place_name(index),
             _ if self.of_types() => TYPES[index].1.to_string(),
             _ => index.to_string(),
         }
@@ -91,8 +91,8 @@ pub const SETS: [(Set, &str, usize); 30] = [
     (Set::Kind, "HXG type, 0 to 7", 8),
     (Set::SendLength, "L of a send that is all that is free (less 2)", 255),
     (Set::ReceiveLength, "L of a receive that is all that is used (less 1)", 256),
-    (Set::SendLay, "L of guc_send, and where the buffer's end falls", LAYS),
-    (Set::ReceiveLay, "L of guc_receive, and where the buffer's end falls", LAYS),
+    (Set::SendPlace, "L of guc_send, and where the buffer's end falls", PLACES),
+    (Set::ReceivePlace, "L of guc_receive, and where the buffer's end falls", PLACES),
     (Set::SendLeft, "places to the end, guc_send of 256, 1 to 256 or more (less 1)", 257),
     (Set::ReceiveLeft, "places to the end, guc_receive of 256, 1 to 256 or more (less 1)", 257),
     (Set::SendAround, "L of guc_send around the end (less 2)", 255),

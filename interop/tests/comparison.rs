@@ -20,7 +20,7 @@ const WITH_TYPES: [(Fun, Set); 6] = [
 ];
 
 /// The whole calls, with the sets of how their messages lie against the end.
-const WITH_LAYS: [(Fun, Set); 2] = [(Fun::Send, Set::SendLay), (Fun::Receive, Set::ReceiveLay)];
+const WITH_LAYS: [(Fun, Set); 2] = [(Fun::Send, Set::SendPlace), (Fun::Receive, Set::ReceivePlace)];
 
 #[test]
 fn every_group_for_a_moment() {

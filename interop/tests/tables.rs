@@ -5,7 +5,7 @@ use interop::edges::directories::{of_directory, of_manifest};
 use interop::edges::images::of_image;
 use interop::edges::messages::of_message;
 use interop::edges::names::{Sought, ONCE, TWICE};
-use interop::edges::places::{lay_name, of_place, LAYS};
+use interop::edges::places::{place_name, of_place, PLACES};
 use interop::edges::{Edge, Stands, BOUNDARIES};
 use interop::functions::{Fun, FUNCTIONS};
 use interop::guc::constants::*;
@@ -134,7 +134,7 @@ fn messages_lie_against_the_end() {
         of_place(&mut stands, op, length, left);
         stands.members
     };
-    let lay = |length, left| lay_name(of(Op::SendWhole, length, left)[0].1);
+    let lay = |length, left| place_name(of(Op::SendWhole, length, left)[0].1);
     assert_eq!(lay(8, 4), "others: end in the middle");
     assert_eq!([lay(2, 1), lay(2, 2)], ["2: end behind the first dword", "2: ends at the end"]);
     assert_eq!([lay(3, 2), lay(4, 3)], ["3: end behind the second", "4: end before the last"]);
@@ -143,10 +143,10 @@ fn messages_lie_against_the_end() {
     assert_eq!(longest[..4], ends.map(|end| format!("256: end {end}")));
     assert_eq!(longest[4], "256: end before the last");
     assert_eq!(longest[5..], ["256: ends at the end", "256: ends before the end"]);
-    let mut names: Vec<String> = (0..LAYS).map(lay_name).collect();
+    let mut names: Vec<String> = (0..PLACES).map(place_name).collect();
     names.sort_unstable();
     names.dedup();
-    assert_eq!(names.len(), LAYS);
+    assert_eq!(names.len(), PLACES);
     let received = of(Op::ReceiveWhole, 256, 1000);
     assert_eq!(received[1..], [(Set::ReceiveLeft, 256)], "none of those around the end");
     let around = of(Op::SendWhole, 3, 2);

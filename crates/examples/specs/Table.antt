@@ -10,7 +10,7 @@ use Rattle.message.specs.Packing.{Answer, packAnswer, unpackAnswer}
 use Rattle.message.specs.declared.Message.{Message}
 use Rattle.message.specs.declared.Origin.the-variants.{Host, Guc}
 use Rattle.message.specs.declared.Body.the-variants.{Request, Event, FastRequest, Busy, Retry, Failure, Success}
-use Rattle.runs.specs.TwoRuns.{firstCount, secondCount, storedRuns}
+use Rattle.runs.specs.TwoRuns.{firstCount, secondCount, storedRuns, readRuns}
 use Rattle.ring.specs.Ring.{head, tail, free}
 use Rattle.channel.specs.State.{State, state, idleAt}
 use Rattle.channel.specs.Outcome.{Outcome, refused}
@@ -59,8 +59,8 @@ abbrev pub freeBy : List ℕ → ℕ
 freeBy d = free 1024 (head d) (tail d)
 
 -- the dwords of the first and of the second run of k from place i on, at N = 1,024
-abbrev pub runs : ℕ → ℕ → ℕ × ℕ
-runs i k = (firstCount 1024 i k, secondCount 1024 i k)
+abbrev pub runCounts : ℕ → ℕ → ℕ × ℕ
+runCounts i k = (firstCount 1024 i k, secondCount 1024 i k)
 
 -- a part: the byte where it starts, and the byte where it ends, which is excluded
 abbrev pub Part : Type 0
@@ -172,16 +172,17 @@ table =
     -- '.. TAIL 4.'
     ∷ (Send.publishAfter (stores 8) is accepted (idleAt 1024 4) (descriptorWith 1020 4 0) around)
     ∷ (Send.whole (idleAt 1024 1020) (dwords 8) (descriptorWith 1020 1020 0) buffer is accepted (idleAt 1024 4) (descriptorWith 1020 4 0) around)
-    -- T-07, '.. in at most two straight runs': the same message, and the same buffer. Ours: 8 that end one place before the end and at it are one run, one dword more
-    -- is the second; the end between the judged dwords, and behind them.
-    ∷ (runs 1020 8 is (4, 4))
+    -- T-07, '.. in at most two straight runs': the same message stored and read. Ours: 8 that end one place before the end and at it are one run, one place further
+    -- the last is the second run; the end between the judged dwords, and behind them.
+    ∷ (runCounts 1020 8 is (4, 4))
     ∷ (storedRuns buffer 1020 (dwords 8) is around)
-    ∷ (runs 1015 8 is (8, 0))
-    ∷ (runs 1016 8 is (8, 0))
-    ∷ (runs 1017 8 is (7, 1))
-    ∷ (runs 1023 2 is (1, 1))
-    ∷ (runs 1023 256 is (1, 255))
-    ∷ (runs 1022 256 is (2, 254))
+    ∷ (readRuns around 1020 8 is dwords 8)
+    ∷ (runCounts 1015 8 is (8, 0))
+    ∷ (runCounts 1016 8 is (8, 0))
+    ∷ (runCounts 1017 8 is (7, 1))
+    ∷ (runCounts 1023 2 is (1, 1))
+    ∷ (runCounts 1023 256 is (1, 255))
+    ∷ (runCounts 1022 256 is (2, 254))
     -- 'P TAIL 1,024 at N = 1,024: 7, STATUS 1.', at a send's look and at a receive's
     ∷ (Send.look (idleAt 1024 0) (dwords 2) (descriptorWith 0 1024 0) buffer is refused 7 (idleAt 1024 0) (descriptorWith 0 1024 1) buffer [])
     ∷ (Receive.look (idleAt 1024 0) (descriptorWith 0 1024 0) buffer is refused 7 (idleAt 1024 0) (descriptorWith 0 1024 1) buffer [])

@@ -151,7 +151,7 @@ pub extern "C" fn guc_cpd_part(blob: &[u8], name: &[u8]) -> Part
     as_part(l)
 }
 
-// Copies src to the front of dst: a straight run, with no test inside.
+// Copies src to the front of dst: a straight run, with no test but its end.
 fn copy_bytes(dst: &mut [u8], src: &[u8])
     requires { ⌜ length (now src) ≤ length (now dst) ⌝ }
     ensures { λ _. ⌜ now (dst .exit) ≡ now (src .entry) ++ drop (length (now (src .entry))) (now (dst .entry)) ⌝ }

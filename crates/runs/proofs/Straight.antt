@@ -1,4 +1,4 @@
--- Runs of dwords: what the loops over them have after a turn, and a run around the ring as one or two straight ones. Assumes nothing.
+-- Dwords of a buffer: what a loop over them has after a turn, and what goes around the end as what is straight. Assumes nothing.
 use Prim.Native.Nat.{ℕ, zero, suc, _+_, _-_, _%_, _≤_, _<_}
 use mathlib.Core.Path.{_≡_, refl, sym, ap, _∙_}
 use mathlib.Core.List.{List, [], _∷_, _++_, append-assoc}
@@ -40,7 +40,7 @@ put-front a k b xs h l =
 around : (n i : ℕ) → i ≡ n → i % n ≡ 0 % n
 around n i e = rw (e, mod-self, zero-mod)
 
--- a run that ends within the buffer needs no remainders
+-- dwords that end within the buffer need no remainders
 stored-sets : (b : List ℕ) (n i : ℕ) (xs : List ℕ) → i + length xs ≤ n → stored b n i xs ≡ sets b i xs
 unfolding stored
 stored-sets b n i [] h = refl
@@ -48,25 +48,25 @@ stored-sets b n i (x ∷ xs) h =
     let e : i % n ≡ i = mod-eq-of-lt (omega arith) in
     rw e (stored-sets (set b i x) n (suc i) xs (omega arith))
 
--- a run that ends within the buffer is stored straight
+-- dwords that end within the buffer are stored straight
 pub stored-straight : (b : List ℕ) (n i : ℕ) (xs : List ℕ) → i + length xs ≤ n → n ≤ length b → stored b n i xs ≡ take i b ++ (xs ++ drop (i + length xs) b)
 stored-straight b n i xs h l = stored-sets b n i xs h ∙ sets-eq xs b i (omega arith) ∙ append-assoc (take i b) xs _
 
 -- what is stored goes by the place's remainder
-pub stored-mod : (b : List ℕ) (n i j : ℕ) (xs : List ℕ) → i % n ≡ j % n → stored b n i xs ≡ stored b n j xs
+stored-mod : (b : List ℕ) (n i j : ℕ) (xs : List ℕ) → i % n ≡ j % n → stored b n i xs ≡ stored b n j xs
 unfolding stored
 stored-mod b n i j [] e = refl
 stored-mod b n i j (x ∷ xs) e =
     rw e (stored-mod (set b (j % n) x) n (suc i) (suc j) xs (suc-mod i n ∙ ap (λ k. suc k % n) e ∙ sym (suc-mod j n)))
 
--- a run in two parts
-pub stored-append : (b : List ℕ) (n i : ℕ) (xs ys : List ℕ) → stored b n i (xs ++ ys) ≡ stored (stored b n i xs) n (i + length xs) ys
+-- dwords in two parts
+stored-append : (b : List ℕ) (n i : ℕ) (xs ys : List ℕ) → stored b n i (xs ++ ys) ≡ stored (stored b n i xs) n (i + length xs) ys
 unfolding stored
 stored-append b n i [] ys = ap (λ k. stored b n k ys) (omega arith)
 stored-append b n i (x ∷ xs) ys =
     stored-append (set b (i % n) x) n (suc i) xs ys ∙ ap (λ k. stored (stored (set b (i % n) x) n (suc i) xs) n k ys) (omega arith)
 
--- a run of more than the k dwords up to the end goes on at the front
+-- more than the k dwords up to the end go on at the front
 pub stored-around : (b : List ℕ) (n i k : ℕ) (xs : List ℕ) → i + k ≡ n → k ≤ length xs → stored b n i xs ≡ stored (stored b n i (take k xs)) n 0 (drop k xs)
 stored-around b n i k xs e h =
     let l : length (take k xs) ≡ k = length-take-le k xs h in
@@ -97,7 +97,7 @@ module _ (b : List ℕ) (at : ℕ) (xs : List ℕ) where
   unfolding storedAt
   stored-long h = cases (ltb at (length b)) (λ a. rw (a, lt-leb (length xs) (length b) h)) (λ a. rw a)
 
--- a run that ends within the buffer is read straight
+-- dwords that end within the buffer are read straight
 pub window-straight : (b : List ℕ) (n i k : ℕ) → i + k ≤ n → n ≤ length b → window b n i k ≡ take k (drop i b)
 unfolding window
 window-straight b n i zero h l = refl
@@ -106,7 +106,7 @@ window-straight b n i (suc k) h l =
     let f : i < length b = omega arith in
     rw (drop-cons b i 0, e, window-straight b n (suc i) k (omega arith) l)
 
--- a run of more than the k dwords up to the end goes on at the front
+-- more than the k dwords up to the end go on at the front
 pub window-around : (b : List ℕ) (n i k m : ℕ) → i + k ≡ n → window b n i (k + m) ≡ window b n i k ++ window b n 0 m
 window-around b n i k m e = rw (window-append, window-mod b n (i + k) 0 m (around n (i + k) e))
 

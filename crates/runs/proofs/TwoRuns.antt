@@ -16,11 +16,11 @@ use Rattle.runs.proofs.Straight.{laid-there, to-end, two-then, stored-s
 
 -- the first run has all the dwords, or goes to the end
 module _ (n i k : ℕ) where
-  pub first-all : k ≤ n - i → firstCount n i k ≡ k
+  first-all : k ≤ n - i → firstCount n i k ≡ k
   unfolding firstCount
   first-all h = min-eq-left h
 
-  pub first-to-end : n - i ≤ k → firstCount n i k ≡ n - i
+  first-to-end : n - i ≤ k → firstCount n i k ≡ n - i
   unfolding firstCount
   first-to-end h = min-eq-right h
 
@@ -132,9 +132,10 @@ read-in-runs b i k l h = elim (decLt (length b - i) k) [ yes u ↦ around u | no
     around u =
         let f = length b - i in
         let e : k ≡ f + (k - f) = omega arith in
-        ap (window b (length b) i) e
-        ∙ window-around b (length b) i f (k - f) (omega arith)
-        ∙ rw (read-run b (length b) i f (omega arith) (omega arith), read-run b (length b) 0 (k - f) (omega arith) (omega arith), read-by b i k f (first-to-end _ _ _ (omega arith)))
+        let x = read-run b (length b) i f (omega arith) (omega arith) in
+        let y = read-run b (length b) 0 (k - f) (omega arith) (omega arith) in
+        let z = read-by b i k f (first-to-end _ _ _ (omega arith)) in
+        ap (window b (length b) i) e ∙ window-around b (length b) i f (k - f) (omega arith) ∙ rw (x, y, z)
 
 -- a message of which the first two dwords are given by value: both open the first run
 together :
@@ -192,7 +193,8 @@ stored-apart b r after h w i u e f =
 -- what `load_runs` reads: k dwords to the front of dst, and from z on, which is the buffer's front, as many others as it has places behind them
 pub read-together :
     (dst b d x y : List ℕ) (i : ℕ) {z : ℕ} → let k = length b - i in y ≡ runOf b z (length (midOf k (length d - k) d)) → z ≡ 0
-    → x ≡ runOf b i (length (midOf 0 (k - 0) dst)) → d ≡ putMid 0 (k - 0) dst x → i < length b → k < length dst → putMid k (length d - k) d y ≡ readRuns b i (length dst)
+    → x ≡ runOf b i (length (midOf 0 (k - 0) dst)) → d ≡ putMid 0 (k - 0) dst x → i < length b → k < length dst
+    → putMid k (length d - k) d y ≡ readRuns b i (length dst)
 read-together dst b d x y i v e u p l h =
     let k = length b - i in
     let q : length (midOf 0 (k - 0) dst) ≡ k = simp (sub-zero, length-take) (omega arith) in

@@ -1,6 +1,6 @@
 -- Straight runs of a buffer. Document 02, T-07: 'the whole send must copy in at most two straight runs, with no remainder or wrap test inside a run'. `Buffer` says
--- where dwords lie, one by one around the end; here is how they are copied, and that it comes to the same. That code copies so is to be seen in the code: a run
--- is one copy of a slice (`copy_run`), which knows neither the buffer's length nor a place.
+-- where dwords lie, one by one around the end; here is how they are copied, and that it comes to the same. That code copies so is to be seen in the code: behind
+-- the judged dwords a run is one copy of a slice (`copy_run`), which knows neither the buffer's length nor a place.
 use Prim.Native.Nat.{ℕ, _+_, _-_, _%_, _≤_, _<_, min}
 use mathlib.Core.Path.{_≡_}
 use mathlib.Core.List.{List, [], _∷_, _++_}
@@ -44,7 +44,7 @@ pub record TwoRuns : Type 0 where
   pub stored-in-runs :
       (b : List ℕ) (i : ℕ) (xs : List ℕ) → i < length b → length xs ≤ length b → stored b (length b) i xs ≡ storedRuns b i xs
   pub read-in-runs : (b : List ℕ) (i k : ℕ) → i < length b → k ≤ length b → window b (length b) i k ≡ readRuns b i k
-  -- the two judged dwords of a message, which are stored by value, are the first places of a run and no runs of their own: both of the first run, with those others
+  -- the two judged dwords of a message, which are stored by value, are the first places of its runs and make no run more: both of the first run, with those others
   -- behind them that lie before the end ..
   pub judged-together :
       (b : List ℕ) (i h w : ℕ) (r : List ℕ) → i + 2 ≤ length b → 2 + length r ≤ length b
@@ -53,7 +53,7 @@ pub record TwoRuns : Type 0 where
   pub judged-apart :
       (b : List ℕ) (i h w : ℕ) (r : List ℕ) → i + 1 ≡ length b → 2 + length r ≤ length b
       → storedRuns b i (h ∷ w ∷ r) ≡ withRun (withRun b i (h ∷ [])) 0 (w ∷ r)
-  -- a receive has read these two, once each, to judge them, and reads the others in what is left of the same runs (from dword 1 on, where the end falls between the two)
+  -- a receive has read these two to judge them, and reads the others in the runs of their own place (from dword 1 on, where the end falls between the two)
   pub others-read :
       (b : List ℕ) (i k : ℕ) → i < length b → 2 ≤ k → k ≤ length b
       → window b (length b) (i + 2) (k - 2) ≡ readRuns b ((i + 2) % length b) (k - 2)

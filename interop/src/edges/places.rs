@@ -29,8 +29,8 @@ const fn ends(length: usize) -> usize {
     }
 }
 
-/// All members of `SendLay`, and of `ReceiveLay`.
-pub const LAYS: usize = ends(2) + ends(3) + ends(4) + ends(17) + ends(256) + ends(0);
+/// All members of `SendPlace`, and of `ReceivePlace`.
+pub const PLACES: usize = ends(2) + ends(3) + ends(4) + ends(17) + ends(256) + ends(0);
 
 /// The place in `ENDS` of a message with so many places left before the end.
 fn end(length: usize, left: usize) -> usize {
@@ -49,8 +49,8 @@ fn first(length: usize) -> (usize, usize) {
     (at, LENGTHS[..at].iter().map(|of| ends(*of)).sum())
 }
 
-/// A member of `SendLay` or `ReceiveLay` by name.
-pub fn lay_name(index: usize) -> String {
+/// A member of `SendPlace` or `ReceivePlace` by name.
+pub fn place_name(index: usize) -> String {
     let at = (1..LENGTHS.len()).filter(|at| first(LENGTHS[*at]).1 <= index).count();
     let length = match LENGTHS[at] {
         0 => "others".to_string(),
@@ -62,12 +62,12 @@ pub fn lay_name(index: usize) -> String {
 /// Notes the members of an accepted whole call, with so many places from its
 /// message's first dword to the end of the buffer.
 pub fn of_place(stands: &mut Stands, op: Op, length: usize, left: usize) {
-    let (lay, of_left, around) = match op {
-        Op::SendWhole => (Set::SendLay, Set::SendLeft, Set::SendAround),
-        Op::ReceiveWhole => (Set::ReceiveLay, Set::ReceiveLeft, Set::ReceiveAround),
+    let (place, of_left, around) = match op {
+        Op::SendWhole => (Set::SendPlace, Set::SendLeft, Set::SendAround),
+        Op::ReceiveWhole => (Set::ReceivePlace, Set::ReceiveLeft, Set::ReceiveAround),
         _ => return,
     };
-    stands.member(lay, first(length).1 + end(length, left));
+    stands.member(place, first(length).1 + end(length, left));
     if length == 256 {
         stands.member(of_left, left.min(257) - 1);
     }

@@ -7,7 +7,7 @@ use Rattle.message.specs.Fields.{fit, dword}
 use Rattle.message.specs.Types.{typeOf, carried, bodyFields, bodiesFrom, bodies, ofType, bodyOf, someBody, known}
 use Rattle.message.specs.Header.{wellFormed, isMessage}
 use Rattle.message.specs.Packing.{originNumber, originOf, decoded, unpack, headerFields, hxgFields, pack, refusing}
-use Rattle.runs.specs.TwoRuns.{firstCount, secondCount, withRun, storedRuns}
+use Rattle.runs.specs.TwoRuns.{firstCount, secondCount, runOf, withRun, storedRuns, readRuns}
 use Rattle.ring.specs.Ring.{allowed, used, free}
 use Rattle.channel.specs.State.{zeros, allZero, idle, activeSend, activeReceive}
 use Rattle.ring.specs.Numbers.{need, firstNeeds, lookNeeds, sendLookNeeds, receiveLookNeeds, sendDecision, receiveDecision, marked}
@@ -38,7 +38,7 @@ unfolding
     Inputs.littles Inputs.cssHeader Inputs.image Inputs.entryBytes Inputs.directoryOf Inputs.directory
     fit dword typeOf carried bodyFields bodiesFrom bodies ofType bodyOf someBody known wellFormed isMessage originNumber originOf
     decoded unpack Option·elim headerFields hxgFields pack refusing
-    firstCount secondCount withRun storedRuns allowed used free zeros allZero idle activeSend need firstNeeds lookNeeds sendLookNeeds receiveLookNeeds marked openNumber openBy
+    firstCount secondCount runOf withRun storedRuns readRuns allowed used free zeros allZero idle activeSend need firstNeeds lookNeeds sendLookNeeds receiveLookNeeds marked openNumber openBy
     sendDecision Send.lookBy Send.moveNumber Send.moveBy Send.publishNumber Send.publishBy moves Send.afterLook receiveDecision Receive.lookBy Receive.wholeNumber Receive.wholeBy
     Receive.afterLook Receive.moveNumber Receive.moveBy Receive.publishNumberOf Receive.publishBy activeReceive
     dwordAt Css.sizes Css.agree Css.spanOf Css.number Css.truncated Css.shown Css.place
@@ -50,7 +50,7 @@ examples =
     & refl & refl
     & refl & refl & refl & refl & refl & refl & refl & refl
     & refl & refl & refl & refl
-    & refl & refl & refl & refl & refl & refl & refl & refl
+    & refl & refl & refl & refl & refl & refl & refl & refl & refl
     & refl & refl & refl & refl & refl
     & refl & refl & refl
     & refl & refl & refl & refl

@@ -1,4 +1,4 @@
--- `runs::lay_rest` meets its contract: behind the two dwords that are stored lies the run that is read. Assumes nothing.
+-- `runs::lay_rest` meets its contract: behind the two dwords that are stored lie the runs that are read. Assumes nothing.
 use Prim.Native.Nat.{_+_, _-_, _%_, _<_}
 use mathlib.Core.Path.{_≡_, _∙_}
 use native.Mathlib.Nat.{mod-lt}

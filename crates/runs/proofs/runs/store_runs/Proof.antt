@@ -41,7 +41,8 @@ returns-3 c =
     let a = start .args in
     let l = first .before .before .before .before .if1 .left in
     let one = first .before .before .before .if2 .left in
-    stored-together (now (a .buf)) (now (a .rest)) _ _ (a .header) (a .word) (a .at) (c .before .before .store-run .ensures) refl refl (rw sub-zero at (first .store-judged2 .ensures)) (start .pre .0) l one
+    let e = rw sub-zero at (first .store-judged2 .ensures) in
+    stored-together (now (a .buf)) (now (a .rest)) _ _ (a .header) (a .word) (a .at) (c .before .before .store-run .ensures) refl refl e (start .pre .0) l one
 
 pub store-runs-spec : {M : Type 1} → statement M
 store-runs-spec =
