@@ -5,7 +5,7 @@ use interop::edges::directories::{of_directory, of_manifest};
 use interop::edges::images::of_image;
 use interop::edges::messages::of_message;
 use interop::edges::names::{Sought, ONCE, TWICE};
-use interop::edges::places::{place_name, of_place, PLACES};
+use interop::edges::places::{of_place, place_name, PLACES};
 use interop::edges::{Edge, Stands, BOUNDARIES};
 use interop::functions::{Fun, FUNCTIONS};
 use interop::guc::constants::*;
