@@ -25,13 +25,19 @@ use Rattle.delivery.specs.Plain.{Plain, Receiving, Sending, first, notRe
 use Rattle.delivery.specs.Plain
 use Rattle.delivery.proofs.Invariant.{Inv, bad, empty-receiving, n-low, plain}
 use Rattle.delivery.proofs.RanWhole.{StepFacts, no-facts, one-run, same-run}
-use Rattle.delivery.proofs.Wholes.{receive-whole-midcall, receive-whole-none, receive-whole-ok, receive-whole-short, refusal, roomNumber, send-whole-midcall, send-whole-ok, send-whole-refused}
+use Rattle.delivery.proofs.Wholes.{done, handed, refusal, roomNumber}
+use Rattle.delivery.proofs.Wholes.{receive-whole-midcall, receive-whole-none, receive-whole-ok, receive-whole-short}
+use Rattle.delivery.proofs.Wholes.{send-whole-midcall, send-whole-ok, send-whole-refused}
+
+-- what is known of an operation of the plain channel
+abbrev FactsOf : Plain → Op → Type 0
+FactsOf p o = StepFacts p o (plainOutcome p o)
 
 module _ (n : ℕ) (b : List ℕ) (q : List (List ℕ)) (P R : ℕ) where
   -- ---- a send's look
 
   module _ (m : List ℕ) (r : Receiving) where
-    look-yes : StepFacts (plain n b q P R notSending r) (sendLook m) (record { code = 0; len = 0; out = []; next = plain n b q P R (sending 0 m) r })
+    look-yes : StepFacts (plain n b q P R notSending r) (sendLook m) (done (plain n b q P R (sending 0 m) r))
     look-yes =
         record {
           flow = λ c h. append-nil q;
@@ -52,17 +58,21 @@ module _ (n : ℕ) (b : List ℕ) (q : List (List ℕ)) (P R : ℕ) where
   -- ---- a send's move, publish and whole call
 
   module _ (k : ℕ) (m : List ℕ) (r : Receiving) (g : Inv (plain n b q P R (sending k m) r)) where
-    move-yes : k < length m → StepFacts (plain n b q P R (sending k m) r) sendMove (record { code = 0; len = 0; out = []; next = plain n (set b ((P + k) % n) (getD m k 0)) q P R (sending (k + 1) m) r })
+    move-yes :
+        k < length m
+        → StepFacts (plain n b q P R (sending k m) r) sendMove (done (plain n (set b ((P + k) % n) (getD m k 0)) q P R (sending (k + 1) m) r))
     move-yes h =
         record {
           flow = λ c h. append-nil q;
           holds = λ c h. h;
           keeps =
               λ j w. getD-set-other b ((P + k) % n) j (getD m k 0) 0 (λ e. apart n (w .i) (P + k) (omega arith) (omega (arith, g .count, g .send .fits)) (sym (w .at) ∙ e));
-          ran = λ c _ e i z l. same-run _ z _ refl (ap (λ (y : List ℕ). set y ((P + k) % n) (getD m k 0)) l ∙ stored-take z n P m k h ∙ ap (λ (x : ℕ). stored z n P (take x m)) (sym (add-one k)));
+          ran = λ c _ e i z l.
+              let t = stored-take z n P m k h ∙ ap (λ (x : ℕ). stored z n P (take x m)) (sym (add-one k)) in
+              same-run _ z _ refl (ap (λ (y : List ℕ). set y ((P + k) % n) (getD m k 0)) l ∙ t);
         }
 
-    pub-yes : length m ≤ k → StepFacts (plain n b q P R (sending k m) r) sendPublish (record { code = 0; len = 0; out = []; next = plain n b (q ++ (m ∷ [])) (P + length m) R notSending r })
+    pub-yes : length m ≤ k → StepFacts (plain n b q P R (sending k m) r) sendPublish (done (plain n b (q ++ (m ∷ [])) (P + length m) R notSending r))
     unfolding stored roomNumber
     pub-yes h =
         let f : leb (length m) (n - 1 - (P - R)) ≡ true = le-leb (length m) (n - 1 - (P - R)) (omega (arith, g .count, g .send .fits)) in
@@ -71,11 +81,15 @@ module _ (n : ℕ) (b : List ℕ) (q : List (List ℕ)) (P R : ℕ) where
           holds = λ c i. tt;
           keeps = λ j w. refl;
           ran =
-              λ c i e _ z l. one-run _ z (stored z n P m) _ _ (sendWhole c) _ (ap (Plain.sendWhole (plain n z q P R notSending notReceiving)) i ∙ send-whole-ok n z q P R notReceiving m (ok 4 (g .send .is-message) ∙ ok 10 f)) refl refl (l ∙ ap (stored z n P) (take-all k m h));
+              λ c i e _ z l.
+              let w = ap (Plain.sendWhole (plain n z q P R notSending notReceiving)) i ∙ send-whole-ok n z q P R notReceiving m (ok 4 (g .send .is-message) ∙ ok 10 f) in
+              one-run _ z (stored z n P m) _ _ (sendWhole c) _ w refl refl (l ∙ ap (stored z n P) (take-all k m h));
         }
 
   module _ (m : List ℕ) (r : Receiving) (g : Inv (plain n b q P R notSending r)) where
-    whole-yes : roomNumber n P R m ≡ 0 → length m ≤ n - 1 - (P - R) → StepFacts (plain n b q P R notSending r) (sendWhole m) (record { code = 0; len = 0; out = []; next = plain n (stored b n P m) (q ++ (m ∷ [])) (P + length m) R notSending r })
+    whole-yes :
+        roomNumber n P R m ≡ 0 → length m ≤ n - 1 - (P - R)
+        → StepFacts (plain n b q P R notSending r) (sendWhole m) (done (plain n (stored b n P m) (q ++ (m ∷ [])) (P + length m) R notSending r))
     unfolding stored
     whole-yes f h =
         let z₀ : 1024 ≤ n = n-low (plain n b q P R notSending r) g in
@@ -86,7 +100,9 @@ module _ (n : ℕ) (b : List ℕ) (q : List (List ℕ)) (P R : ℕ) where
           ran = λ c i e _ z l. one-run _ z (stored z n P m) _ _ (sendWhole m) _ (send-whole-ok n z q P R notReceiving m f) refl refl (ap (λ (y : List ℕ). stored y n P m) l);
         }
 
-    whole-no : (c : ℕ) → roomNumber n P R m ≡ c → eqb c 0 ≡ false → eqb c 3 ≡ false → StepFacts (plain n b q P R notSending r) (sendWhole m) (refusal c [] (plain n b q P R notSending r))
+    whole-no :
+        (c : ℕ) → roomNumber n P R m ≡ c → eqb c 0 ≡ false → eqb c 3 ≡ false
+        → StepFacts (plain n b q P R notSending r) (sendWhole m) (refusal c [] (plain n b q P R notSending r))
     whole-no c f f₀ f₃ =
         record {
           flow = λ c′ h. rw f₀ (append-nil q);
@@ -107,7 +123,7 @@ module _ (n : ℕ) (b : List ℕ) (P R : ℕ) (s : Sending) where
         ran = λ c h e i z l. one-run _ z z _ _ (receiveWhole e) _ (receive-whole-none n z P R notSending e (le-leb 256 (length e) (omega arith))) refl refl l;
       }
 
-  r-look-yes : (q : List (List ℕ)) (k : ℕ) → StepFacts (plain n b q P R s notReceiving) receiveLook (record { code = 0; len = 0; out = []; next = plain n b q P R s (receiving k) })
+  r-look-yes : (q : List (List ℕ)) (k : ℕ) → StepFacts (plain n b q P R s notReceiving) receiveLook (done (plain n b q P R s (receiving k)))
   r-look-yes q k =
       record {
         flow = λ c h. append-nil q;
@@ -116,7 +132,7 @@ module _ (n : ℕ) (b : List ℕ) (P R : ℕ) (s : Sending) where
         ran = λ c h e i z l. same-run _ z _ refl l;
       }
 
-  r-move-yes : (q : List (List ℕ)) (k : ℕ) → StepFacts (plain n b q P R s (receiving k)) receiveMove (record { code = 0; len = 0; out = []; next = plain n b q P R s (receiving (k + 1)) })
+  r-move-yes : (q : List (List ℕ)) (k : ℕ) → StepFacts (plain n b q P R s (receiving k)) receiveMove (done (plain n b q P R s (receiving (k + 1))))
   r-move-yes q k =
       record {
         flow = λ c h. append-nil q;
@@ -126,7 +142,7 @@ module _ (n : ℕ) (b : List ℕ) (P R : ℕ) (s : Sending) where
       }
 
   module _ (o : List ℕ) (l₀ : leb 256 (length o) ≡ true) (m : List ℕ) (q : List (List ℕ)) (h₀ : 1 ≤ length m) where
-    r-pub-yes : (r : Receiving) → StepFacts (plain n b (m ∷ q) P R s r) (receivePublish o) (record { code = 0; len = length m; out = m ++ drop (length m) o; next = plain n b q P (R + length m) s notReceiving })
+    r-pub-yes : (r : Receiving) → StepFacts (plain n b (m ∷ q) P R s r) (receivePublish o) (handed m o (plain n b q P (R + length m) s notReceiving))
     r-pub-yes r =
         record {
           flow = λ c h. append-nil (m ∷ q) ∙ ap (λ (y : List ℕ). y ∷ q) (sym (take-append-seam m (drop (length m) o)));
@@ -135,7 +151,7 @@ module _ (n : ℕ) (b : List ℕ) (P R : ℕ) (s : Sending) where
           ran = λ c h e i z l. one-run _ z z _ _ (receiveWhole o) _ (receive-whole-ok n z P R notSending o l₀ m q h₀) refl refl l;
         }
 
-    r-whole-yes : StepFacts (plain n b (m ∷ q) P R s notReceiving) (receiveWhole o) (record { code = 0; len = length m; out = m ++ drop (length m) o; next = plain n b q P (R + length m) s notReceiving })
+    r-whole-yes : StepFacts (plain n b (m ∷ q) P R s notReceiving) (receiveWhole o) (handed m o (plain n b q P (R + length m) s notReceiving))
     r-whole-yes =
         record {
           flow = λ c h. append-nil (m ∷ q) ∙ ap (λ (y : List ℕ). y ∷ q) (sym (take-append-seam m (drop (length m) o)));
@@ -165,7 +181,7 @@ module _ (n : ℕ) (b : List ℕ) (P R : ℕ) (s : Sending) where
 -- ---- every operation
 
 module _ (n : ℕ) (b : List ℕ) (P R : ℕ) where
-  facts-look : (q : List (List ℕ)) (r : Receiving) (m : List ℕ) (s : Sending) → Inv (plain n b q P R s r) → StepFacts (plain n b q P R s r) (sendLook m) (plainOutcome (plain n b q P R s r) (sendLook m))
+  facts-look : (q : List (List ℕ)) (r : Receiving) (m : List ℕ) (s : Sending) → Inv (plain n b q P R s r) → FactsOf (plain n b q P R s r) (sendLook m)
   unfolding Plain.sendLookBy Plain.sendLookNumber need roomNumber
   facts-look q r m notSending g =
       cases (isMessage m)
@@ -175,7 +191,7 @@ module _ (n : ℕ) (b : List ℕ) (P R : ℕ) where
       (λ f. rw f (look-no n b q P R m r 4 (bad _ f) refl refl))
   facts-look q r m (sending k m₀) g = no-facts _ _ 3 [] (λ k. refl) refl (λ k. refl) (λ e k. refl)
 
-  facts-move : (q : List (List ℕ)) (r : Receiving) (s : Sending) → Inv (plain n b q P R s r) → StepFacts (plain n b q P R s r) sendMove (plainOutcome (plain n b q P R s r) sendMove)
+  facts-move : (q : List (List ℕ)) (r : Receiving) (s : Sending) → Inv (plain n b q P R s r) → FactsOf (plain n b q P R s r) sendMove
   unfolding Plain.sendMoveBy Plain.sendMoveNumber need Plain.sendMoved
   facts-move q r notSending g = no-facts _ _ 3 [] (λ k. refl) refl (λ k. refl) (λ e k. refl)
   facts-move q r (sending k m) g =
@@ -185,7 +201,7 @@ module _ (n : ℕ) (b : List ℕ) (P R : ℕ) where
       let d : k ≢ length m = eqb-false k (length m) e in
       rw e (move-yes n b q P R k m r g (omega (arith, g .send .up-to))))
 
-  facts-pub : (q : List (List ℕ)) (r : Receiving) (s : Sending) → Inv (plain n b q P R s r) → StepFacts (plain n b q P R s r) sendPublish (plainOutcome (plain n b q P R s r) sendPublish)
+  facts-pub : (q : List (List ℕ)) (r : Receiving) (s : Sending) → Inv (plain n b q P R s r) → FactsOf (plain n b q P R s r) sendPublish
   unfolding Plain.sendPublishBy Plain.sendPublishNumber need Plain.sendPublished
   facts-pub q r notSending g = no-facts _ _ 3 [] (λ k. refl) refl (λ k. refl) (λ e k. refl)
   facts-pub q r (sending k m) g =
@@ -193,7 +209,7 @@ module _ (n : ℕ) (b : List ℕ) (P R : ℕ) where
       (λ e. rw e (pub-yes n b q P R k m r g (leb-true (length m) k e)))
       (λ e. rw e (no-facts _ _ 12 [] (λ k. refl) refl (λ k. refl) (λ e k. refl)))
 
-  facts-whole : (q : List (List ℕ)) (r : Receiving) (m : List ℕ) (s : Sending) → Inv (plain n b q P R s r) → StepFacts (plain n b q P R s r) (sendWhole m) (plainOutcome (plain n b q P R s r) (sendWhole m))
+  facts-whole : (q : List (List ℕ)) (r : Receiving) (m : List ℕ) (s : Sending) → Inv (plain n b q P R s r) → FactsOf (plain n b q P R s r) (sendWhole m)
   unfolding roomNumber
   facts-whole q r m notSending g =
       cases (isMessage m)
@@ -204,13 +220,13 @@ module _ (n : ℕ) (b : List ℕ) (P R : ℕ) where
   facts-whole q r m (sending k m₀) g = rw (send-whole-midcall n b q P R r m k m₀) (no-facts _ _ 3 [] (λ k. refl) refl (λ k. refl) (λ e k. refl))
 
   module _ (s : Sending) where
-    facts-r-look : (q : List (List ℕ)) (r : Receiving) → Inv (plain n b q P R s r) → StepFacts (plain n b q P R s r) receiveLook (plainOutcome (plain n b q P R s r) receiveLook)
+    facts-r-look : (q : List (List ℕ)) (r : Receiving) → Inv (plain n b q P R s r) → FactsOf (plain n b q P R s r) receiveLook
     unfolding Plain.receiveLookBy Plain.receiveLookNumber need
     facts-r-look [] notReceiving g = r-look-none n b P R s
     facts-r-look (m ∷ q) notReceiving g = r-look-yes n b P R s (m ∷ q) 1
     facts-r-look q (receiving k) g = no-facts _ _ 3 [] (λ k. refl) refl (λ k. refl) (λ e k. refl)
 
-    facts-r-move : (q : List (List ℕ)) (r : Receiving) → Inv (plain n b q P R s r) → StepFacts (plain n b q P R s r) receiveMove (plainOutcome (plain n b q P R s r) receiveMove)
+    facts-r-move : (q : List (List ℕ)) (r : Receiving) → Inv (plain n b q P R s r) → FactsOf (plain n b q P R s r) receiveMove
     unfolding Plain.receiveMoveBy Plain.receiveMoveNumber need
     facts-r-move q notReceiving g = no-facts _ _ 3 [] (λ k. refl) refl (λ k. refl) (λ e k. refl)
     facts-r-move q (receiving k) g =
@@ -218,7 +234,7 @@ module _ (n : ℕ) (b : List ℕ) (P R : ℕ) where
         (λ e. rw e (no-facts _ _ 12 [] (λ k. refl) refl (λ k. refl) (λ e k. refl)))
         (λ e. rw e (r-move-yes n b P R s q k))
 
-    facts-r-pub : (o : List ℕ) (q : List (List ℕ)) (r : Receiving) → Inv (plain n b q P R s r) → StepFacts (plain n b q P R s r) (receivePublish o) (plainOutcome (plain n b q P R s r) (receivePublish o))
+    facts-r-pub : (o : List ℕ) (q : List (List ℕ)) (r : Receiving) → Inv (plain n b q P R s r) → FactsOf (plain n b q P R s r) (receivePublish o)
     unfolding Plain.receivePublishBy Plain.receivePublishNumber need
     facts-r-pub o q notReceiving g = no-facts _ _ 3 o (λ k. refl) refl (λ k. refl) (λ e k. refl)
     facts-r-pub o [] (receiving k) g = empty-receiving k (g .receive)
@@ -229,7 +245,7 @@ module _ (n : ℕ) (b : List ℕ) (P R : ℕ) where
         (λ f. rw (e, f) (no-facts _ _ 12 o (λ k. refl) refl (λ k. refl) (λ e k. refl))))
         (λ e. rw e (no-facts _ _ 5 o (λ k. refl) refl (λ k. refl) (λ e k. refl)))
 
-    facts-r-whole : (o : List ℕ) (q : List (List ℕ)) (r : Receiving) → Inv (plain n b q P R s r) → StepFacts (plain n b q P R s r) (receiveWhole o) (plainOutcome (plain n b q P R s r) (receiveWhole o))
+    facts-r-whole : (o : List ℕ) (q : List (List ℕ)) (r : Receiving) → Inv (plain n b q P R s r) → FactsOf (plain n b q P R s r) (receiveWhole o)
     facts-r-whole o [] notReceiving g =
         cases (leb 256 (length o))
         (λ e. rw (receive-whole-none n b P R s o e) (r-whole-none n b P R s o e))
@@ -241,7 +257,7 @@ module _ (n : ℕ) (b : List ℕ) (P R : ℕ) where
         (λ e. rw (receive-whole-short n b (m ∷ q) P R s o e) (r-whole-short n b P R s (m ∷ q) o e))
     facts-r-whole o q (receiving k) g = rw (receive-whole-midcall n b q P R s o k) (no-facts _ _ 3 o (λ k. refl) refl (λ k. refl) (λ e k. refl))
 
-pub facts : (p : Plain) → Inv p → (o : Op) → StepFacts p o (plainOutcome p o)
+pub facts : (p : Plain) → Inv p → (o : Op) → FactsOf p o
 facts p g (sendLook m) = facts-look (p .n) (p .buf) (p .P) (p .R) (p .queue) (p .receive) m (p .send) g
 facts p g sendMove = facts-move (p .n) (p .buf) (p .P) (p .R) (p .queue) (p .receive) (p .send) g
 facts p g sendPublish = facts-pub (p .n) (p .buf) (p .P) (p .R) (p .queue) (p .receive) (p .send) g

@@ -20,7 +20,8 @@ use Rattle.channel.specs.Steps.{moves, nextPlace}
 use Rattle.channel.specs.Send
 use Rattle.message.proofs.Tests.{cases}
 use Rattle.runs.proofs.Ring.{apart, window-mod}
-use Rattle.delivery.specs.Demand.{Call, Demand3, Serial, StoresAt, Unreleased, answers, cut, ended, endedBy, held, midway, messagesPublished, publishedBy, messagesReceived, receivedBy, result, unread, wholes}
+use Rattle.delivery.specs.Demand.{Call, Demand3, Serial, StoresAt, Unreleased, answers, cut, ended, endedBy, held, midway, result, unread, wholes}
+use Rattle.delivery.specs.Demand.{messagesPublished, publishedBy, messagesReceived, receivedBy}
 use Rattle.channel.specs.Operations.{Op, receiveLook, receiveMove, receivePublish, receiveWhole, sendLook, sendMove, sendPublish, sendWhole}
 use Rattle.delivery.specs.Operations.{Channel, Seen, after, end, plainOutcome, plainEnd, plainRun, plainSeen, run}
 use Rattle.delivery.specs.Plain.{PlainOutcome, Plain, Receiving, Sending, descriptor, fresh, notSending, sending}
@@ -36,15 +37,23 @@ use Rattle.delivery.proofs.SendSteps
 
 -- ---- messages
 
-pub flow-run : (list : List Op) (p : Plain) → Inv p → (c : List ℕ) → HoldsMessage c (p .send) → p .queue ++ messagesPublished c list (plainRun p list) ≡ messagesReceived list (plainRun p list) ++ plainEnd p list .queue
+pub flow-run :
+    (list : List Op) (p : Plain) → Inv p → (c : List ℕ) → HoldsMessage c (p .send)
+    → p .queue ++ messagesPublished c list (plainRun p list) ≡ messagesReceived list (plainRun p list) ++ plainEnd p list .queue
 unfolding messagesPublished messagesReceived plainRun plainEnd
 flow-run [] p g c h = append-nil (p .queue)
 flow-run (o ∷ os) p g c h =
     let f : StepFacts p o (plainOutcome p o) = facts p g o in
     let x : Plain = plainOutcome p o .next in
     let a : Seen = plainSeen (plainOutcome p o) in
-    let i : x .queue ++ messagesPublished (held c o a) os (plainRun x os) ≡ messagesReceived os (plainRun x os) ++ plainEnd x os .queue = flow-run os x (step-sim p g o .good) (held c o a) (f .holds c h) in
-    sym (append-assoc (p .queue) (publishedBy c o a) _) ∙ ap (λ (l : List (List ℕ)). l ++ messagesPublished (held c o a) os (plainRun x os)) (f .flow c h) ∙ append-assoc (receivedBy o a) (x .queue) _ ∙ ap (λ (l : List (List ℕ)). receivedBy o a ++ l) i ∙ sym (append-assoc (receivedBy o a) (messagesReceived os (plainRun x os)) (plainEnd x os .queue))
+    let later = messagesPublished (held c o a) os (plainRun x os) in
+    let taken = messagesReceived os (plainRun x os) in
+    let i : x .queue ++ later ≡ taken ++ plainEnd x os .queue = flow-run os x (step-sim p g o .good) (held c o a) (f .holds c h) in
+    sym (append-assoc (p .queue) (publishedBy c o a) _)
+    ∙ ap (λ (l : List (List ℕ)). l ++ later) (f .flow c h)
+    ∙ append-assoc (receivedBy o a) (x .queue) _
+    ∙ ap (λ (l : List (List ℕ)). receivedBy o a ++ l) i
+    ∙ sym (append-assoc (receivedBy o a) taken (plainEnd x os .queue))
 
 cut-flat : (f : ℕ) (q : List (List ℕ)) → AllMessages q → length (flat q) ≤ f → cut f (flat q) ≡ q
 unfolding cut flat
@@ -60,7 +69,9 @@ cut-flat (suc f) ((x ∷ m) ∷ q) a h =
 unread-queue : (p : Plain) → Inv p → unread (descriptor p) (p .buf) ≡ p .queue
 unfolding unread descriptor
 unread-queue p g =
-    let e : window (p .buf) (p .n) (p .R % p .n) (length (flat (p .queue))) ≡ flat (p .queue) = window-mod (p .buf) (p .n) (p .R % p .n) (p .R) (length (flat (p .queue))) (mod-mod (p .R) (p .n)) ∙ g .in-buffer in
+    let k = length (flat (p .queue)) in
+    let m = window-mod (p .buf) (p .n) (p .R % p .n) (p .R) k (mod-mod (p .R) (p .n)) in
+    let e : window (p .buf) (p .n) (p .R % p .n) k ≡ flat (p .queue) = m ∙ g .in-buffer in
     rw (used-eq p g, g .size, e) (cut-flat (p .n) (p .queue) (g .all-messages) (omega (arith, g .room)))
 
 -- ---- the calls that ended, run whole
@@ -89,11 +100,17 @@ chain p z x cs y ds f r =
       lin = r .lin;
       to = ap (plainEnd (serialOf p z)) e ∙ pend-append (wholes cs) (wholes ds) (serialOf p z) ∙ ap (λ (u : Plain). plainEnd u (wholes ds)) (f .to) ∙ r .to;
       gave =
-          ap (λ (l : List Op). map result (plainRun (serialOf p z) l)) e ∙ ap (map result) (prun-append (wholes cs) (wholes ds) (serialOf p z)) ∙ map-append _ (plainRun (serialOf p z) (wholes cs)) _ ∙ (λ i. f .gave i ++ (ap (λ (u : Plain). map result (plainRun u (wholes ds))) (f .to) ∙ r .gave) i) ∙ sym (map-append _ cs ds);
+          ap (λ (l : List Op). map result (plainRun (serialOf p z) l)) e
+          ∙ ap (map result) (prun-append (wholes cs) (wholes ds) (serialOf p z))
+          ∙ map-append _ (plainRun (serialOf p z) (wholes cs)) _
+          ∙ (λ i. f .gave i ++ (ap (λ (u : Plain). map result (plainRun u (wholes ds))) (f .to) ∙ r .gave) i)
+          ∙ sym (map-append _ cs ds);
     }
 
 module _ (any : ℕ → List ℕ) (any-len : (i : ℕ) → length (any i) ≡ 256) where
-  serial-run : (list : List Op) (p : Plain) → Inv p → (c : List ℕ) → HoldsMessage c (p .send) → (z : List ℕ) → Lacks p z → RunWhole p z (plainEnd p list) (ended any c list (plainRun p list))
+  serial-run :
+      (list : List Op) (p : Plain) → Inv p → (c : List ℕ) → HoldsMessage c (p .send) → (z : List ℕ) → Lacks p z
+      → RunWhole p z (plainEnd p list) (ended any c list (plainRun p list))
   unfolding ended plainRun plainEnd
   serial-run [] p g c h z l = record { z′ = z; lin = l; to = refl; gave = refl }
   serial-run (o ∷ os) p g c h z l =
@@ -130,7 +147,9 @@ module _ (n : ℕ) (b : List ℕ) (q : List (List ℕ)) (P R : ℕ) (r : Receivi
       let w : SendSim (Plain.sendLook p m .next) (moves Send.move k (asSender (Plain.sendLook p m))) (Plain.sendMoves k (Plain.sendLook p m)) = SendSteps.moves-sim k (Plain.sendLook p m) (l .good) in
       let y : Plain.sendMoves k (Plain.sendLook p m) .next ≡ plain n (stored b n P (take k m)) q P R (sending k m) r = send-moves n b q P R r m k (Plain.sendLook p m) (omega arith) (rw (t, u)) in
       let z : length (stored b n P (take k m)) ≡ n = sym (ap (λ (v : Plain). length (v .buf)) y) ∙ w .good .size ∙ ap (λ (v : Plain). v .n) y in
-      ap (λ (a : Outcome). nextPlace (a .next) (a .buf)) (ap (moves Send.move k) (l .same) ∙ w .same) ∙ ap (λ (v : Plain). nextPlace (senderOf v) (v .buf)) y ∙ ap (λ (x : ℕ). (P % n + k) % x) z
+      ap (λ (a : Outcome). nextPlace (a .next) (a .buf)) (ap (moves Send.move k) (l .same) ∙ w .same)
+      ∙ ap (λ (v : Plain). nextPlace (senderOf v) (v .buf)) y
+      ∙ ap (λ (x : ℕ). (P % n + k) % x) z
 
   whole-safe :
       (s : Sending) (m : List ℕ) → Inv (plain n b q P R s r) → Plain.sendLook (plain n b q P R s r) m .code ≡ 0
@@ -196,46 +215,50 @@ kept-dword p g o j w = ap (λ (y : Channel). getD (y .buf) j 0) (step-sim p g o 
 -- ---- demand 3
 
 module _ (b : List ℕ) (a : allowed (length b) ≡ true) (list : List Op) where
-  p₀ : Plain
+  -- both channels as they are opened
+  abbrev p₀ : Plain
   p₀ = fresh (length b) b
 
-  g₀ : Inv (fresh (length b) b)
+  abbrev c₀ : Channel
+  c₀ = channelOf p₀
+
+  g₀ : Inv p₀
   g₀ = fresh-good b a
 
   messages₀ :
-      messagesReceived list (run (channelOf (fresh (length b) b)) list) ++ unread (end (channelOf (fresh (length b) b)) list .desc) (end (channelOf (fresh (length b) b)) list .buf) ≡ messagesPublished [] list (run (channelOf (fresh (length b) b)) list)
+      messagesReceived list (run c₀ list) ++ unread (end c₀ list .desc) (end c₀ list .buf) ≡ messagesPublished [] list (run c₀ list)
   messages₀ =
-      let p : Plain = plainEnd (fresh (length b) b) list in
-      rw (run-sim (fresh (length b) b) g₀ list, end-sim (fresh (length b) b) g₀ list)
-      (ap (λ (l : List (List ℕ)). messagesReceived list (plainRun (fresh (length b) b) list) ++ l) (unread-queue p (end-good (fresh (length b) b) g₀ list)) ∙ sym (flow-run list (fresh (length b) b) g₀ [] tt))
+      let p : Plain = plainEnd p₀ list in
+      rw (run-sim p₀ g₀ list, end-sim p₀ g₀ list)
+      (ap (λ (l : List (List ℕ)). messagesReceived list (plainRun p₀ list) ++ l) (unread-queue p (end-good p₀ g₀ list)) ∙ sym (flow-run list p₀ g₀ [] tt))
 
   stores₀ :
-      (pre : List Op) (o : Op) (j : ℕ) → Unreleased (plainEnd (fresh (length b) b) pre) j
-      → ((k : ℕ) → StoresAt (end (channelOf (fresh (length b) b)) pre) o k j → ⊥) × (getD (after (end (channelOf (fresh (length b) b)) pre) o .buf) j 0 ≡ getD (end (channelOf (fresh (length b) b)) pre .buf) j 0)
+      (pre : List Op) (o : Op) (j : ℕ) → Unreleased (plainEnd p₀ pre) j
+      → ((k : ℕ) → StoresAt (end c₀ pre) o k j → ⊥) × (getD (after (end c₀ pre) o .buf) j 0 ≡ getD (end c₀ pre .buf) j 0)
   stores₀ pre o j w =
-      let p : Plain = plainEnd (fresh (length b) b) pre in
-      let g : Inv p = end-good (fresh (length b) b) g₀ pre in
-      rw (end-sim (fresh (length b) b) g₀ pre) (no-store p g o j w, kept-dword p g o j w)
+      let p : Plain = plainEnd p₀ pre in
+      let g : Inv p = end-good p₀ g₀ pre in
+      rw (end-sim p₀ g₀ pre) (no-store p g o j w, kept-dword p g o j w)
 
   places₀ :
-      (pre : List Op) (o : Op) (k j : ℕ) → StoresAt (end (channelOf (fresh (length b) b)) pre) o k j
-      → j ≡ (plainEnd (fresh (length b) b) pre .P + k) % plainEnd (fresh (length b) b) pre .n
+      (pre : List Op) (o : Op) (k j : ℕ) → StoresAt (end c₀ pre) o k j
+      → j ≡ (plainEnd p₀ pre .P + k) % plainEnd p₀ pre .n
   places₀ pre o k j =
-      rw (end-sim (fresh (length b) b) g₀ pre) (store-place (plainEnd (fresh (length b) b) pre) (end-good (fresh (length b) b) g₀ pre) o k j)
+      rw (end-sim p₀ g₀ pre) (store-place (plainEnd p₀ pre) (end-good p₀ g₀ pre) o k j)
 
   serial₀ :
-      plainEnd (fresh (length b) b) list .send ≡ notSending → (any : ℕ → List ℕ) → ((i : ℕ) → length (any i) ≡ 256)
-      → Serial (channelOf (fresh (length b) b)) (ended any [] list (run (channelOf (fresh (length b) b)) list)) (end (channelOf (fresh (length b) b)) list)
+      plainEnd p₀ list .send ≡ notSending → (any : ℕ → List ℕ) → ((i : ℕ) → length (any i) ≡ 256)
+      → Serial c₀ (ended any [] list (run c₀ list)) (end c₀ list)
   unfolding stored descriptor
   serial₀ s any l =
-      let p : Plain = plainEnd (fresh (length b) b) list in
-      let cs : List Call = ended any [] list (plainRun (fresh (length b) b) list) in
-      let r : RunWhole (fresh (length b) b) b p cs = serial-run any l list (fresh (length b) b) g₀ [] tt b refl in
-      rw (run-sim (fresh (length b) b) g₀ list, end-sim (fresh (length b) b) g₀ list)
+      let p : Plain = plainEnd p₀ list in
+      let cs : List Call = ended any [] list (plainRun p₀ list) in
+      let r : RunWhole p₀ b p cs = serial-run any l list p₀ g₀ [] tt b refl in
+      rw (run-sim p₀ g₀ list, end-sim p₀ g₀ list)
       (record {
-        same-answers = ap (map result) (run-sim (fresh (length b) b) g₀ (wholes cs)) ∙ r .gave;
-        same-desc = ap (λ (y : Channel). y .desc) (end-sim (fresh (length b) b) g₀ (wholes cs)) ∙ ap descriptor (r .to);
-        same-buf = ap (λ (y : Channel). y .buf) (end-sim (fresh (length b) b) g₀ (wholes cs)) ∙ ap (λ (y : Plain). y .buf) (r .to) ∙ sym (rw s at (r .lin));
+        same-answers = ap (map result) (run-sim p₀ g₀ (wholes cs)) ∙ r .gave;
+        same-desc = ap (λ (y : Channel). y .desc) (end-sim p₀ g₀ (wholes cs)) ∙ ap descriptor (r .to);
+        same-buf = ap (λ (y : Channel). y .buf) (end-sim p₀ g₀ (wholes cs)) ∙ ap (λ (y : Plain). y .buf) (r .to) ∙ sym (rw s at (r .lin));
       })
 
 pub demand3 : Demand3

@@ -21,34 +21,49 @@ use Rattle.delivery.proofs.Invariant.{plain}
 abbrev pub refusal : ℕ → List ℕ → Plain → PlainOutcome
 refusal c o p = record { code = c; len = 0; out = o; next = p }
 
+-- of an operation that is accepted and lays nothing, and of a receive that lays m
+abbrev pub done : Plain → PlainOutcome
+done p = record { code = 0; len = 0; out = []; next = p }
+
+abbrev pub handed : List ℕ → List ℕ → Plain → PlainOutcome
+handed m o p = record { code = 0; len = length m; out = m ++ drop (length m) o; next = p }
+
 -- the number of a send's look, where the sender is not mid-call
 unfoldable pub roomNumber : ℕ → ℕ → ℕ → List ℕ → ℕ
 roomNumber n P R m = need (isMessage m) 4 (need (leb (length m) (n - 1 - (P - R))) 10 0)
 
 module _ (n : ℕ) (b : List ℕ) (q : List (List ℕ)) (P R : ℕ) where
   module _ (r : Receiving) (m : List ℕ) where
-    -- k dwords moved, and j more
-    pub send-moves-eq : (j k : ℕ) (x : PlainOutcome) → k + j ≤ length m → x .next ≡ plain n (stored b n P (take k m)) q P R (sending k m) r → Plain.sendMoves j x .next ≡ plain n (stored b n P (take (k + j) m)) q P R (sending (k + j) m) r
+    -- k dwords moved
+    abbrev moved : ℕ → Plain
+    moved k = plain n (stored b n P (take k m)) q P R (sending k m) r
+
+    -- and j more
+    pub send-moves-eq : (j k : ℕ) (x : PlainOutcome) → k + j ≤ length m → x .next ≡ moved k → Plain.sendMoves j x .next ≡ moved (k + j)
     unfolding Plain.sendMoves Plain.sendMoveBy Plain.sendMoveNumber Plain.sendMoved need
     send-moves-eq zero k x h f =
         let e : k ≡ k + 0 = omega arith in
-        f ∙ ap (λ (i : ℕ). plain n (stored b n P (take i m)) q P R (sending i m) r) e
+        f ∙ ap moved e
     send-moves-eq (suc j) k x h f =
-        let t : Plain.sendMove (x .next) .next ≡ plain n (stored b n P (take (suc k) m)) q P R (sending (suc k) m) r = rw (f, ne-eqb k (length m) (λ w. omega arith), add-one k, stored-take b n P m k (omega arith)) in
+        let s = stored-take b n P m k (omega arith) in
+        let t : Plain.sendMove (x .next) .next ≡ moved (suc k) = rw (f, ne-eqb k (length m) (λ w. omega arith), add-one k, s) in
         let e : suc k + j ≡ k + suc j = omega arith in
-        send-moves-eq j (suc k) (Plain.sendMove (x .next)) (omega arith) t ∙ ap (λ (i : ℕ). plain n (stored b n P (take i m)) q P R (sending i m) r) e
+        send-moves-eq j (suc k) (Plain.sendMove (x .next)) (omega arith) t ∙ ap moved e
 
-    pub send-moves : (j : ℕ) (x : PlainOutcome) → j ≤ length m → x .next ≡ plain n b q P R (sending 0 m) r → Plain.sendMoves j x .next ≡ plain n (stored b n P (take j m)) q P R (sending j m) r
+    pub send-moves : (j : ℕ) (x : PlainOutcome) → j ≤ length m → x .next ≡ plain n b q P R (sending 0 m) r → Plain.sendMoves j x .next ≡ moved j
     unfolding stored
     send-moves j x h f =
         let e : 0 + j ≡ j = omega arith in
-        send-moves-eq j 0 x (omega arith) f ∙ ap (λ (i : ℕ). plain n (stored b n P (take i m)) q P R (sending i m) r) e
+        send-moves-eq j 0 x (omega arith) f ∙ ap moved e
 
-    pub send-whole-ok : roomNumber n P R m ≡ 0 → Plain.sendWhole (plain n b q P R notSending r) m ≡ record { code = 0; len = 0; out = []; next = plain n (stored b n P m) (q ++ (m ∷ [])) (P + length m) R notSending r }
+    pub send-whole-ok :
+        roomNumber n P R m ≡ 0
+        → Plain.sendWhole (plain n b q P R notSending r) m ≡ done (plain n (stored b n P m) (q ++ (m ∷ [])) (P + length m) R notSending r)
     unfolding Plain.sendAfterLook Plain.sendLookBy Plain.sendLookNumber roomNumber Plain.sendPublishBy Plain.sendPublishNumber Plain.sendPublished need stored
     send-whole-ok e =
-        let x : PlainOutcome = record { code = 0; len = 0; out = []; next = plain n b q P R (sending 0 m) r } in
-        let t : Plain.sendMoves (length m) x .next ≡ plain n (stored b n P m) q P R (sending (length m) m) r = send-moves (length m) x (omega arith) refl ∙ ap (λ (l : List ℕ). plain n (stored b n P l) q P R (sending (length m) m) r) (take-all (length m) m (omega arith)) in
+        let x = done (plain n b q P R (sending 0 m) r) in
+        let all : List ℕ → Plain = λ l. plain n (stored b n P l) q P R (sending (length m) m) r in
+        let t : Plain.sendMoves (length m) x .next ≡ all m = send-moves (length m) x (omega arith) refl ∙ ap all (take-all (length m) m (omega arith)) in
         rw e (rw (t, le-leb (length m) (length m) (omega arith)))
 
     pub send-whole-refused : (c : ℕ) → roomNumber n P R m ≡ c → eqb c 0 ≡ false → Plain.sendWhole (plain n b q P R notSending r) m ≡ refusal c [] (plain n b q P R notSending r)
@@ -60,7 +75,9 @@ module _ (n : ℕ) (b : List ℕ) (q : List (List ℕ)) (P R : ℕ) where
     send-whole-midcall k m₀ = refl
 
   module _ (s : Sending) (o : List ℕ) where
-    receive-moves : (j k : ℕ) (x : PlainOutcome) → k + j ≡ length (first q) → x .next ≡ plain n b q P R s (receiving k) → Plain.receiveMoves j x .next ≡ plain n b q P R s (receiving (length (first q)))
+    receive-moves :
+        (j k : ℕ) (x : PlainOutcome) → k + j ≡ length (first q) → x .next ≡ plain n b q P R s (receiving k)
+        → Plain.receiveMoves j x .next ≡ plain n b q P R s (receiving (length (first q)))
     unfolding Plain.receiveMoves Plain.receiveMoveBy Plain.receiveMoveNumber need
     receive-moves zero k x e f =
         let k′ : k ≡ length (first q) = omega arith in
@@ -84,9 +101,9 @@ module _ (n : ℕ) (b : List ℕ) (P R : ℕ) (s : Sending) (o : List ℕ) (l : 
 
   pub receive-whole-ok :
       (m : List ℕ) (q : List (List ℕ)) → 1 ≤ length m
-      → Plain.receiveWhole (plain n b (m ∷ q) P R s notReceiving) o ≡ record { code = 0; len = length m; out = m ++ drop (length m) o; next = plain n b q P (R + length m) s notReceiving }
+      → Plain.receiveWhole (plain n b (m ∷ q) P R s notReceiving) o ≡ handed m o (plain n b q P (R + length m) s notReceiving)
   unfolding Plain.receiveWholeBy Plain.receiveWholeNumber Plain.receiveLookBy Plain.receiveLookNumber Plain.receiveAfterLook Plain.receivePublishBy Plain.receivePublishNumber need
   receive-whole-ok m q h =
-      let x : PlainOutcome = record { code = 0; len = 0; out = []; next = plain n b (m ∷ q) P R s (receiving 1) } in
+      let x = done (plain n b (m ∷ q) P R s (receiving 1)) in
       let t : Plain.receiveMoves (length m - 1) x .next ≡ plain n b (m ∷ q) P R s (receiving (length m)) = receive-moves n b (m ∷ q) P R s o (length m - 1) 1 x (omega arith) refl in
       rw l (rw (t, le-leb (length m) (length m) (omega arith)))

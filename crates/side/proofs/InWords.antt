@@ -30,7 +30,9 @@ use Rattle.channel.proofs.SendAtOnce.{send-method}
 use Rattle.ring.proofs.Sent.{Accepted, accepted}
 
 -- 260 words are four numbers and a copy
-pub four : (P : List ℕ → Type 0) → ((n own len moved : ℕ) (copy : List ℕ) → length copy ≡ 256 → P (n ∷ own ∷ len ∷ moved ∷ copy)) → (w : List ℕ) → length w ≡ 260 → P w
+pub four :
+    (P : List ℕ → Type 0) → ((n own len moved : ℕ) (copy : List ℕ) → length copy ≡ 256 → P (n ∷ own ∷ len ∷ moved ∷ copy))
+    → (w : List ℕ) → length w ≡ 260 → P w
 four P f [] e = absurd (omega arith)
 four P f (a ∷ []) e = absurd (omega arith)
 four P f (a ∷ b ∷ []) e = absurd (omega arith)
@@ -70,9 +72,14 @@ n-set x = four (λ w. stateOf (set w 0 x) ≡ state x (stateOf w .own) (stateOf 
 
 pub rested : (x : ℕ) (w : List ℕ) → length w ≡ 260 → stateOf (set (set (set (take 4 w ++ replicate (length w - 4) 0) 1 x) 2 0) 3 0) ≡ idleAt (getD w 0 0) x
 unfolding stateOf zeros
-rested x w h = let e : length w - 4 ≡ 256 = omega arith in rw e (four (λ w. stateOf (set (set (set (take 4 w ++ replicate 256 0) 1 x) 2 0) 3 0) ≡ idleAt (getD w 0 0) x) (λ n own len moved copy e. refl) w h)
+rested x w h =
+    let e : length w - 4 ≡ 256 = omega arith in
+    let P : List ℕ → Type 0 = λ w. stateOf (set (set (set (take 4 w ++ replicate 256 0) 1 x) 2 0) 3 0) ≡ idleAt (getD w 0 0) x in
+    rw e (four P (λ n own len moved copy e. refl) w h)
 
-pub filled : (m w : List ℕ) → length w ≡ 260 → stateOf w .moved ≡ 0 → stateOf w .copy ≡ zeros → stateOf (set (take 4 w ++ (m ++ drop (length m) (drop 4 w))) 2 (length m)) ≡ Send.loaded (stateOf w) m
+pub filled :
+    (m w : List ℕ) → length w ≡ 260 → stateOf w .moved ≡ 0 → stateOf w .copy ≡ zeros
+    → stateOf (set (take 4 w ++ (m ++ drop (length m) (drop 4 w))) 2 (length m)) ≡ Send.loaded (stateOf w) m
 unfolding stateOf zeros
 filled m = four (λ w. stateOf w .moved ≡ 0 → stateOf w .copy ≡ zeros → stateOf (set (take 4 w ++ (m ++ drop (length m) (drop 4 w))) 2 (length m)) ≡ Send.loaded (stateOf w) m)
     (λ n own len moved copy e z q.
@@ -169,25 +176,34 @@ unfolding marked
 marked-none d = refl
 
 -- a look that accepts, with the state in words
-pub looked-send : (w m d b w′ d′ : List ℕ) (c : ℕ) → c ≡ Send.lookNumber (stateOf w) m d b → c ≡ 0 → d′ ≡ marked c d → stateOf w′ ≡ Send.loaded (stateOf w) m → inWords c 0 w′ d′ b [] ≡ Send.look (stateOf w) m d b
+pub looked-send :
+    (w m d b w′ d′ : List ℕ) (c : ℕ) → c ≡ Send.lookNumber (stateOf w) m d b → c ≡ 0 → d′ ≡ marked c d → stateOf w′ ≡ Send.loaded (stateOf w) m
+    → inWords c 0 w′ d′ b [] ≡ Send.look (stateOf w) m d b
 looked-send w m d b w′ d′ c e z f g =
     let f0 : d′ ≡ d = f ∙ ap (λ k. marked k d) z ∙ marked-none d in
     rw (sym e, z, f0, g) (sym (send-looked (stateOf w) m d b))
 
-pub looked-receive : (w d b w′ d′ : List ℕ) (c : ℕ) → c ≡ Receive.lookNumber (stateOf w) d b → c ≡ 0 → d′ ≡ marked c d → stateOf w′ ≡ Receive.loaded (stateOf w) (getD b (stateOf w .own) 0) → inWords c 0 w′ d′ b [] ≡ Receive.look (stateOf w) d b
+pub looked-receive :
+    (w d b w′ d′ : List ℕ) (c : ℕ) → c ≡ Receive.lookNumber (stateOf w) d b → c ≡ 0 → d′ ≡ marked c d
+    → stateOf w′ ≡ Receive.loaded (stateOf w) (getD b (stateOf w .own) 0) → inWords c 0 w′ d′ b [] ≡ Receive.look (stateOf w) d b
 looked-receive w d b w′ d′ c e z f g =
     let f0 : d′ ≡ d = f ∙ ap (λ k. marked k d) z ∙ marked-none d in
     rw (sym e, z, f0, g) (sym (receive-looked (stateOf w) d b))
 
 -- a receive's publish that moves HEAD, with the state in words
-module _ (w o d b w′ d′ : List ℕ) (c : ℕ) (e : c ≡ Receive.publishNumber (stateOf w) o d b) (f : d′ ≡ set d HEAD (pastMessage (stateOf w) b)) (g : stateOf w′ ≡ idleAt (stateOf w .n) (pastMessage (stateOf w) b)) where
-  pub passed-over : c ≡ 13 → inWords 13 0 w′ d′ b o ≡ Receive.publish (stateOf w) o d b
-  unfolding Receive.publishBy
-  passed-over z = rw (sym e, z, f, g)
+module _
+    (w o d b w′ d′ : List ℕ) (c : ℕ) (e : c ≡ Receive.publishNumber (stateOf w) o d b)
+    (f : d′ ≡ set d HEAD (pastMessage (stateOf w) b)) (g : stateOf w′ ≡ idleAt (stateOf w .n) (pastMessage (stateOf w) b))
+  where
+    pub passed-over : c ≡ 13 → inWords 13 0 w′ d′ b o ≡ Receive.publish (stateOf w) o d b
+    unfolding Receive.publishBy
+    passed-over z = rw (sym e, z, f, g)
 
-  pub handed-out : (l : ℕ) (o′ : List ℕ) → c ≡ 0 → l ≡ stateOf w .len → o′ ≡ take (stateOf w .len) (stateOf w .copy) ++ drop (stateOf w .len) o → inWords 0 l w′ d′ b o′ ≡ Receive.publish (stateOf w) o d b
-  unfolding Receive.publishBy
-  handed-out l o′ z k q = rw (sym e, z, f, g, k, q)
+    pub handed-out :
+        (l : ℕ) (o′ : List ℕ) → c ≡ 0 → l ≡ stateOf w .len → o′ ≡ take (stateOf w .len) (stateOf w .copy) ++ drop (stateOf w .len) o
+        → inWords 0 l w′ d′ b o′ ≡ Receive.publish (stateOf w) o d b
+    unfolding Receive.publishBy
+    handed-out l o′ z k q = rw (sym e, z, f, g, k, q)
 
 -- words that are made for N
 pub made : (x y : ℕ) (w : List ℕ) → length w ≡ 260 → stateOf w ≡ idleAt y 0 → stateOf (set w 0 x) ≡ idleAt x 0
@@ -204,7 +220,10 @@ module _ (w m d b : List ℕ) (h : length w ≡ 260) (r : WholeEnd) (d′ b′ :
 
   pub sent-whole : r .code ≡ 0 → inWords (r .code) 0 (set w 1 (r .own)) d′ b′ [] ≡ Send.whole (stateOf w) m d b
   unfolding stateOf
-  sent-whole z = rw (send-method (stateOf w) m d b (idle (length b) (stateOf w)) r d′ b′ refl e, z) (ap (λ (x : State). record { code = 0; len = 0; next = x; desc = d′; buf = b′; out = [] }) (idle-own (r .own) w h (idle-words (length b) w h (has z .is-fit))))
+  sent-whole z =
+      let i = idle-own (r .own) w h (idle-words (length b) w h (has z .is-fit)) in
+      rw (send-method (stateOf w) m d b (idle (length b) (stateOf w)) r d′ b′ refl e, z)
+      (ap (λ (x : State). record { code = 0; len = 0; next = x; desc = d′; buf = b′; out = [] }) i)
 
   pub sent-refused : eqb (r .code) 0 ≡ false → inWords (r .code) 0 w d′ b′ [] ≡ Send.whole (stateOf w) m d b
   sent-refused z = rw (send-method (stateOf w) m d b (idle (length b) (stateOf w)) r d′ b′ refl e, z)
@@ -236,7 +255,8 @@ module _ (w o d b : List ℕ) (h : length w ≡ 260) (r : WholeEnd) (d′ o′ :
   received-whole z =
       let t = taken-has _ _ _ _ _ _ (took z) in
       let i = idle-own (r .own) w h (idle-words (length b) w h (t .is-fit)) in
-      rw (receive-method (stateOf w) o d b (idle (length b) (stateOf w)) r d′ o′ refl e, z) (ap (λ (x : State). record { code = r .code; len = r .len; next = x; desc = d′; buf = b; out = o′ }) i)
+      rw (receive-method (stateOf w) o d b (idle (length b) (stateOf w)) r d′ o′ refl e, z)
+      (ap (λ (x : State). record { code = r .code; len = r .len; next = x; desc = d′; buf = b; out = o′ }) i)
 
   pub received-refused : (eqb (r .code) 0 || eqb (r .code) 13) ≡ false → inWords (r .code) (r .len) w d′ b o′ ≡ Receive.whole (stateOf w) o d b
   received-refused z = rw (receive-method (stateOf w) o d b (idle (length b) (stateOf w)) r d′ o′ refl e, z)

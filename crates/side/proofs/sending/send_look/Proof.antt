@@ -20,16 +20,24 @@ use Rattle.side.proofs.sending.send_look.Statement.{statement}
 use Rattle.side.proofs.sending.send_look.Tie as tie
 
 -- the number is that of a look at the message
-number : (q : tie.After-send-decision) → let a = q .before .before .before .before .before .before .before .before .before .before .before .before .before .args in q .send-decision .result ≡ Send.lookNumber (stateOf (now (a .w))) (now (a .msg)) (now (a .desc)) (now (a .buf))
+number :
+    (q : tie.After-send-decision)
+    → let a = q .before .before .before .before .before .before .before .before .before .before .before .before .before .args in
+    q .send-decision .result ≡ Send.lookNumber (stateOf (now (a .w))) (now (a .msg)) (now (a .desc)) (now (a .buf))
 number q =
-    rw (q .before .before .dword-at2 .ensures, q .before .before .before .dword-at .ensures, q .before .before .before .before .is-idle .ensures, ap (λ (x : Counts). x .own) (q .before .before .before .before .before .before .before .counts-of .ensures)) at (q .send-decision .ensures)
+    let idle-told = q .before .before .before .before in
+    let own = ap (λ (x : Counts). x .own) (idle-told .before .before .before .counts-of .ensures) in
+    rw (q .before .before .dword-at2 .ensures, q .before .before .before .dword-at .ensures, idle-told .is-idle .ensures, own) at (q .send-decision .ensures)
 
 returns : tie.Need-returns
 unfolding Send.lookBy
 returns c = simp (← number (c .before .before .before .before .before), ne-eqb _ _ (c .before .before .before .before .if1 .taken), c .before .before .mark .ensures)
 
 -- what an accepted look has
-has : (c : tie.Else1) → let a = c .before .before .before .before .before .before .before .before .before .before .before .before .before .before .args in Accepted (idle (length (now (a .buf))) (stateOf (now (a .w)))) (stateOf (now (a .w)) .own) (now (a .msg)) (now (a .desc)) (length (now (a .buf)))
+has :
+    (c : tie.Else1)
+    → let a = c .before .before .before .before .before .before .before .before .before .before .before .before .before .before .args in
+    Accepted (idle (length (now (a .buf))) (stateOf (now (a .w)))) (stateOf (now (a .w)) .own) (now (a .msg)) (now (a .desc)) (length (now (a .buf)))
 has c = accepted _ _ _ _ _ (sym (number (c .before)) ∙ c .if1 .left)
 
 sub-load : tie.Need-sub-load
@@ -41,8 +49,9 @@ part-load-start c = message-long _ (has (c .before) .is-message)
 load-requires : tie.Need-load-requires
 load-requires c κs =
     let h = has (c .before .before) in
-    let m = now (c .before .before .before .before .before .before .before .before .before .before .before .before .before .before .before .before .args .msg) in
-    let i = idle-words _ (now (c .before .before .before .before .before .before .before .before .before .before .before .before .before .before .before .before .args .w)) (search needs) (h .is-fit) in
+    let a = c .before .before .before .before .before .before .before .before .before .before .before .before .before .before .before .before .args in
+    let m = now (a .msg) in
+    let i = idle-words _ (now (a .w)) (search needs) (h .is-fit) in
     (search needs, simp (length-take, length-drop) (omega (arith, message-long m (h .is-message), message-short m (h .is-message))), i .no-moved, i .no-copy)
 
 returns-2 : tie.Need-returns-2
@@ -51,7 +60,9 @@ returns-2 c =
     let a = looked .before .before .before .before .before .before .before .before .before .before .before .before .before .before .args in
     let m = now (a .msg) in
     let h = has looked in
-    let q : looked .before .before .before .before .dword-at .result ∷ looked .before .before .before .dword-at2 .result ∷ take (length m - 2) (drop 2 m) ≡ m = rw (looked .before .before .before .dword-at2 .ensures, looked .before .before .before .before .dword-at .ensures) (two-and-rest m (message-long m (h .is-message))) in
+    let word = looked .before .before .before .dword-at2 in
+    let header = looked .before .before .before .before .dword-at in
+    let q : header .result ∷ word .result ∷ take (length m - 2) (drop 2 m) ≡ m = rw (word .ensures, header .ensures) (two-and-rest m (message-long m (h .is-message))) in
     let e = c .load .ensures ∙ ap (Send.loaded (stateOf (now (a .w)))) q in
     looked-send (now (a .w)) m (now (a .desc)) (now (a .buf)) _ _ 0 (sym (sym (number (looked .before)) ∙ looked .if1 .left)) refl (sym (marked-none (now (a .desc)))) e
 
