@@ -97,8 +97,8 @@ fn store_runs(buf: &mut [u32], at: usize, header: u32, word: u32, rest: &[u32])
         store_opened(buf, FRONT, word, rest);
         return;
     }
-    // The second run goes on where the first stopped.
     let taken = room - 2;
+    // The second run goes on where the first stopped.
     let next = taken;
     store_judged(buf, at, header, word, &rest[0..taken]);
     store_run(buf, FRONT, &rest[next..]);
