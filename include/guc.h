@@ -1,92 +1,49 @@
 /*
- * guc.h: the C interface of libguc.a, for callers in a kernel or a program.
+ * guc.h: the C interface of libguc, for callers in a kernel or a program.
  * One direction of a command transport buffer (CTB), the CTB and HXG words of
  * its messages, and the parts of CSS and HuC CPD firmware images.
  *
- * WHAT EVERY FUNCTION DOES
+ * ANSWERS ARE POSITIVE. 0 is accepted, and every refusal is a number above 0 of
+ * enum guc_number: `if (ret < 0)` never fires, write `if (ret)`. The compiler
+ * warns of an answer that nobody looks at.
  *
  * Every function is total: it answers any contents and any counts, it never
  * aborts, and it keeps nothing between calls; there is no hidden state and no
- * allocation. A refusal is a number of enum guc_number. Where several apply,
- * the lowest is given, but 22 is tested before 21, and a part inside a directory
- * is judged only after the directory itself; 101 is judged before all others,
- * 100 after them.
+ * allocation. Where several numbers apply, the lowest is given, but 22 is tested
+ * before 21, and a part inside a directory is judged only after the directory
+ * itself; 101 is judged before all others, 100 after them.
  *
  * "Changes" below names everything a call may change. What it doesn't name is
  * left as it was, also on a refusal.
  *
- * WHAT THE CALLER SUPPLIES
+ * WHAT THE CALLER SUPPLIES (docs/INTEGRATION.md says why)
  *
- * - x86-64, System V calling convention.
- * - memcpy and memset with their usual meaning. The archive needs nothing else.
- * - A stack aligned to 16 bytes as that convention asks. The code may use the
- *   128 bytes below the stack pointer (the red zone). Where an interrupt can
- *   push onto the same stack, as in a kernel built with -mno-red-zone, call it
- *   only while nothing can interrupt on that stack.
- * - No indirect branch tracking for this code: it has jump tables, and no
- *   endbr64 behind them.
- * - Saved SSE2 state: the code uses SSE2 registers. In Linux that means
- *   kernel_fpu_begin() before a call and kernel_fpu_end() after it.
- * - Pointers that are never null, not even for count 0: there any non-null
- *   pointer aligned for its type will do. Dwords are 4-byte aligned; blobs,
- *   names and destinations are bytes, of any alignment.
- * - Counts that are true: so many dwords or bytes lie there. Sizes that are
- *   wrong for the purpose are answered (1, 2, 5, 100), false ones can't be.
- * - Slices that overlap neither each other nor the state words. Two that are
- *   only read (const) may be the same.
- * - Ordinary memory. The code makes plain loads and stores of any width, so a
- *   ring behind an I/O mapping needs a copy in memory.
- * - One call at a time on one side's state. The two sides of a channel may run
- *   on different processors.
+ * - x86-64, the System V calling convention, a stack aligned as it asks.
+ * - memcpy and memset with their usual meaning. No archive asks for more.
+ * - The archive that fits: libguc-kernel.a where SSE, the red zone or indirect
+ *   jumps are not allowed; libguc.a, libguc-fast.a or libguc-v3.a (AVX2) elsewhere.
+ * - Pointers to what is there: so many dwords or bytes as their count says, dwords
+ *   aligned to 4 bytes. With count 0 nothing is touched, and NULL will do.
+ * - Slices that overlap neither each other, nor a side, nor the descriptor. Two
+ *   that are only read (const) may be the same. Where that cannot be promised
+ *   link libguc.a: the other archives are compiled on the strength of it.
+ * - Ordinary memory. The code makes plain loads and stores of any width.
+ * - One call at a time on one side. The two sides of a channel may run on
+ *   different processors: guc_live.h has the calls for that, with their fences.
  *
- * WHERE MEMORY BARRIERS BELONG
- *
- * The archive issues none. With live memory between two processors:
- *
- * Sending, in steps: guc_send_look, guc_send_store L times, a write barrier,
- * guc_send_publish. The barrier keeps the new TAIL from being seen before the
- * message's dwords. guc_send has no such place inside, so there the other side
- * must not act on TAIL alone: ring the doorbell that tells it only after a
- * fence that follows the call. A receiver that polls TAIL needs the steps.
- *
- * Receiving: a read barrier belongs between TAIL and the message's dwords. Read
- * TAIL yourself (or take the interrupt that announces the message), and where it
- * differs from HEAD put the barrier before guc_receive or guc_receive_look. The
- * message at HEAD was published whole, so its dwords are then the ones read.
- * The steps give another place, between guc_receive_look and the first
- * guc_receive_copy; it comes before every dword but the header, which the look
- * itself reads. A full barrier before guc_receive_publish keeps those reads ahead
- * of the new HEAD; guc_receive has no place for it, so there tell the sender of
- * the room only after a fence that follows the call.
- *
- * To have a place for the barrier in whole calls too, lend a copy of the
- * descriptor: read HEAD, TAIL and STATUS once each into 16 dwords of your own,
- * lend those, and write the one changed word back (STATUS after 7, 8, 9; TAIL or
- * HEAD after a publish) behind the barrier.
- *
- * WHICH LENT MEMORY MUST STAND STILL
- *
- * The proofs are of memory that nobody else writes while a call runs. These
- * must have it so: a side's state, and what a call writes (out, dst, the dwords
- * that a send stores).
- *
- * Other lent memory (the message, name and blob; HEAD, TAIL and STATUS; the ring
- * that a receive reads) is better kept still too. Where somebody writes it
- * meanwhile, this holds, and is tested on the archive and not proved: each word
- * that a call judges is read once, and what was judged is what is stored, handed
- * out or answered. So nothing outside the slices is touched, whatever is written;
- * an accepted message is published with the two dwords that were judged; a part
- * answered by 0 lies within the blob, its number, start and length from one
- * judgement; a look answered 0 leaves a state that fits. What may happen: words
- * of different moments are judged together, the dwords of a message behind its
- * second are those of any moment of the call, and copied bytes are those that lie
- * there when they are copied.
+ * The proofs are of memory that nobody else writes while a call runs. A side, a
+ * descriptor's words of one's own and what a call writes must have it so. Where
+ * somebody writes other lent memory meanwhile, this holds, and is tested on each
+ * archive and not proved: each word that a call judges is read once, and what was
+ * judged is what is stored, handed out or answered, so nothing outside the slices
+ * is touched. The dwords of a message behind its second, and copied bytes, are
+ * those that lie there when they are copied.
  */
 #ifndef GUC_H
 #define GUC_H
 
 #if !defined(__x86_64__) || defined(_WIN32)
-#error "libguc.a is made for x86-64 with the System V calling convention"
+#error "libguc is made for x86-64 with the System V calling convention"
 #endif
 
 #ifdef __KERNEL__
@@ -100,15 +57,32 @@
 extern "C" {
 #endif
 
+/* An answer that is not looked at is a mistake. */
+#if defined(__GNUC__)
+#define GUC_ANSWER __attribute__((warn_unused_result))
+#define GUC_KEPT __attribute__((used))
+#else
+#define GUC_ANSWER
+#define GUC_KEPT
+#endif
+
+/*
+ * The version of this interface, and a function of the archive that has it in its
+ * name: an object compiled with a header of another version does not link.
+ */
+#define GUC_INTERFACE 2
+uint32_t guc_interface_2(void);
+static uint32_t (*const guc_interface_linked)(void) GUC_KEPT = guc_interface_2;
+
 /*
  * The answers. 0 to 22 are the specification's (22 by a change request, tested
  * after 20 and before 21), 100 and 101 this interface's.
  */
 enum guc_number {
 	GUC_OK = 0,              /* accepted */
-	GUC_BAD_DESCRIPTOR = 1,  /* the descriptor is not 16 dwords */
+	GUC_BAD_DESCRIPTOR = 1,  /* not given here: struct guc_descriptor is 16 dwords */
 	GUC_BAD_BUFFER = 2,      /* N is no multiple of 1,024 from 1,024 to 16,384 */
-	GUC_BAD_STATE = 3,       /* the state doesn't fit this call and this N */
+	GUC_BAD_STATE = 3,       /* the side doesn't fit this call and this N */
 	GUC_BAD_MESSAGE = 4,     /* the message to send or unpack is malformed */
 	GUC_SHORT_OUTPUT = 5,    /* the output has fewer than 256 dwords */
 	GUC_BROKEN = 6,          /* STATUS is not 0 */
@@ -133,26 +107,22 @@ enum guc_number {
 };
 
 enum {
-	GUC_STATE_WORDS = 260,    /* dwords of a side's state */
-	GUC_DESC_DWORDS = 16,     /* dwords of a descriptor */
-	GUC_MESSAGE_DWORDS = 256  /* longest message, and the least output */
+	GUC_STATE_WORDS = 260,     /* dwords of a side that can make steps */
+	GUC_DESC_DWORDS = 16,      /* dwords of a descriptor */
+	GUC_MESSAGE_DWORDS = 256,  /* longest message, and the least output */
+	GUC_RING_UNIT = 1024,      /* N is a multiple of it */
+	GUC_RING_MIN = 1024,
+	GUC_RING_MAX = 16384,
+	GUC_NAME_BYTES = 12        /* longest name of a directory's entry */
 };
 
-/* Places in a descriptor; words 3 to 15 are reserved, never judged or changed
- * save that guc_open zeroes them. */
-enum guc_desc_word {
-	GUC_DESC_HEAD = 0,   /* next dword to read */
-	GUC_DESC_TAIL = 1,   /* next dword to write */
-	GUC_DESC_STATUS = 2  /* 0 is good, anything else broken */
-};
-
-/* Places in a side's state. Treat it as opaque: store it, lend it, copy it. */
-enum guc_state_word {
-	GUC_STATE_N = 0,     /* the N it was made for */
-	GUC_STATE_OWN = 1,   /* own tail (sender) or own head (receiver) */
-	GUC_STATE_LEN = 2,   /* L of the message under way, 0 when idle */
-	GUC_STATE_MOVED = 3, /* dwords stored or copied so far */
-	GUC_STATE_COPY = 4   /* own copy of the message, 256 dwords */
+/* STATUS of a descriptor. Anything but good is broken, unknown bits too. */
+enum guc_status {
+	GUC_STATUS_GOOD = 0,
+	GUC_STATUS_OVERFLOW = 1,  /* an offset was too large: set on 7 */
+	GUC_STATUS_UNDERFLOW = 2, /* a message was truncated: set on 9 */
+	GUC_STATUS_MISMATCH = 4,  /* an offset was modified: set on 8 */
+	GUC_STATUS_UNUSED = 8     /* never set here */
 };
 
 /* HXG types; only 4 is unknown. A fast request is laid out as a request and wants
@@ -178,6 +148,49 @@ enum guc_component {
 	GUC_PART_RSA = 1,
 	GUC_PART_MODULUS = 2,
 	GUC_PART_EXPONENT = 3
+};
+
+/* The words both sides share. reserved is never judged, and changed by an opening
+ * alone, which zeroes it. */
+struct guc_descriptor {
+	uint32_t head;   /* next dword to read */
+	uint32_t tail;   /* next dword to write */
+	uint32_t status; /* enum guc_status */
+	uint32_t reserved[GUC_DESC_DWORDS - 3];
+};
+
+/*
+ * A side that makes steps and whole calls. The words are the library's: open
+ * writes them, calls change them, the caller may copy them whole and ask for
+ *   own    the own tail (sender) or own head (receiver),
+ *   len    L of the message under way, 0 when idle,
+ *   moved  dwords stored (sender) or copied (receiver) so far.
+ */
+struct guc_sender {
+	uint32_t words[GUC_STATE_WORDS];
+};
+
+struct guc_receiver {
+	uint32_t words[GUC_STATE_WORDS];
+};
+
+static inline uint32_t guc_sender_own(const struct guc_sender *s) { return s->words[1]; }
+static inline uint32_t guc_sender_len(const struct guc_sender *s) { return s->words[2]; }
+static inline uint32_t guc_sender_moved(const struct guc_sender *s) { return s->words[3]; }
+static inline uint32_t guc_receiver_own(const struct guc_receiver *r) { return r->words[1]; }
+static inline uint32_t guc_receiver_len(const struct guc_receiver *r) { return r->words[2]; }
+static inline uint32_t guc_receiver_moved(const struct guc_receiver *r) { return r->words[3]; }
+
+/* A side that makes whole calls only. Between them it is always idle, so that
+ * these two words are all of it, and its calls are the fastest. */
+struct guc_whole_sender {
+	uint32_t n;   /* the N it was made for */
+	uint32_t own; /* own tail */
+};
+
+struct guc_whole_receiver {
+	uint32_t n;   /* the N it was made for */
+	uint32_t own; /* own head */
 };
 
 struct guc_received {
@@ -241,99 +254,137 @@ struct guc_manifest {
 /*
  * THE CHANNEL
  *
- * desc and desc_len are the descriptor, buf and n the ring of N = n dwords.
+ * ring and n are the ring of N = n dwords, GUC_RING_MIN to GUC_RING_MAX.
  * used = (TAIL - HEAD) mod N, free = N - 1 - used; equal offsets mean empty.
  *
- * w is one side's state, lent and changed in place. It stays as it was on every
- * refusal but 13. A look or a whole call wants an idle state, the other steps
- * one between its look and its publish; else 3. No function undoes a look: a
- * call begun in steps is finished in steps, or the channel is opened again.
+ * A side stays as it was on every refusal but 13. A look or a whole call wants an
+ * idle side, the other steps one between its look and its publish; else 3. No
+ * function undoes a look: a call begun in steps is finished in steps, or the
+ * channel is opened again.
+ *
+ * 6 to 9 mean a broken channel: after 7, 8 and 9 STATUS is set, and each later
+ * look answers 6 until the channel is opened again.
  */
 
 /*
  * Opens a channel with an empty ring.
- * Answers 0, 1 or 2.
- * Changes both states: idle with own offset 0, or all zeros on a refusal, which
- * fit no call. The descriptor: all zeros on 0. What the states held before is
- * not read.
+ * Answers 0 or 2.
+ * Changes both sides: idle with own offset 0, or made for N = 0 on a refusal, so
+ * that they fit no call. The descriptor: all zeros on 0. What the sides held
+ * before is not read.
  */
-uint32_t guc_open(uint32_t sender[260], uint32_t receiver[260],
-		  uint32_t *desc, size_t desc_len,
-		  const uint32_t *buf, size_t n);
+GUC_ANSWER uint32_t guc_open(struct guc_sender *s, struct guc_receiver *r,
+			     struct guc_descriptor *desc,
+			     const uint32_t *ring, size_t n);
 
 /*
  * A send's first step: judges the message, then STATUS, HEAD and TAIL, and
- * takes a copy of the message into the state. msg must have exactly
+ * takes a copy of the message into the side. msg must have exactly
  * L = 1 + NUM_DWORDS dwords.
- * Answers 0, 1, 2, 3, 4, 6, 7, 8 or 10.
- * Changes the state on 0; STATUS on 7 and 8.
+ * Answers 0, 2, 3, 4, 6, 7, 8 or 10.
+ * Changes the side on 0; STATUS on 7 and 8.
  */
-uint32_t guc_send_look(uint32_t w[260], uint32_t *desc, size_t desc_len,
-		       const uint32_t *buf, size_t n,
-		       const uint32_t *msg, size_t msg_len);
+GUC_ANSWER uint32_t guc_send_look(struct guc_sender *s, struct guc_descriptor *desc,
+				  const uint32_t *ring, size_t n,
+				  const uint32_t *msg, size_t msg_len);
 
 /*
  * Stores the message's next dword, k, at (own tail + k) mod N.
- * Answers 0, 1, 2, 3, or 12 when all L are stored.
- * Changes the state and that one dword of the ring on 0.
+ * Answers 0, 2, 3, or 12 when all L are stored.
+ * Changes the side and that one dword of the ring on 0.
  */
-uint32_t guc_send_store(uint32_t w[260], const uint32_t *desc, size_t desc_len,
-			uint32_t *buf, size_t n);
+GUC_ANSWER uint32_t guc_send_store(struct guc_sender *s,
+				   const struct guc_descriptor *desc,
+				   uint32_t *ring, size_t n);
+
+/*
+ * The same of every dword that is left: what that many guc_send_store do, one
+ * after another, in at most two straight runs.
+ * Answers as guc_send_store.
+ * Changes the side and those dwords of the ring on 0.
+ */
+GUC_ANSWER uint32_t guc_send_store_all(struct guc_sender *s,
+				       const struct guc_descriptor *desc,
+				       uint32_t *ring, size_t n);
 
 /*
  * A send's last step: TAIL = (own tail + L) mod N.
- * Answers 0, 1, 2, 3, or 12 when dwords are still to be stored.
- * Changes the state (idle, past the message) and TAIL on 0.
+ * Answers 0, 2, 3, or 12 when dwords are still to be stored.
+ * Changes the side (idle, past the message) and TAIL on 0.
  */
-uint32_t guc_send_publish(uint32_t w[260], uint32_t *desc, size_t desc_len,
-			  const uint32_t *buf, size_t n);
+GUC_ANSWER uint32_t guc_send_publish(struct guc_sender *s, struct guc_descriptor *desc,
+				     const uint32_t *ring, size_t n);
 
 /*
  * A whole send: look, L stores and publish, or the look's refusal.
  * Answers as guc_send_look.
- * Changes the state, the L dwords of the ring and TAIL on 0; STATUS on 7, 8.
+ * Changes the side, the L dwords of the ring and TAIL on 0; STATUS on 7, 8.
  */
-uint32_t guc_send(uint32_t w[260], uint32_t *desc, size_t desc_len,
-		  uint32_t *buf, size_t n,
-		  const uint32_t *msg, size_t msg_len);
+GUC_ANSWER uint32_t guc_send(struct guc_sender *s, struct guc_descriptor *desc,
+			     uint32_t *ring, size_t n,
+			     const uint32_t *msg, size_t msg_len);
 
 /*
  * A receive's first step: judges STATUS, HEAD and TAIL and, where the ring is
- * not empty, copies the header dword into the state.
- * Answers 0, 1, 2, 3, 6, 7, 8, 9 or 11.
- * Changes the state on 0; STATUS on 7, 8 and 9.
+ * not empty, copies the header dword into the side.
+ * Answers 0, 2, 3, 6, 7, 8, 9 or 11.
+ * Changes the side on 0; STATUS on 7, 8 and 9.
  */
-uint32_t guc_receive_look(uint32_t w[260], uint32_t *desc, size_t desc_len,
-			  const uint32_t *buf, size_t n);
+GUC_ANSWER uint32_t guc_receive_look(struct guc_receiver *r, struct guc_descriptor *desc,
+				     const uint32_t *ring, size_t n);
 
 /*
- * Copies the message's next dword into the state, L - 1 times in all.
- * Answers 0, 1, 2, 3, or 12 when all L are copied.
- * Changes the state on 0.
+ * Copies the message's next dword into the side, L - 1 times in all.
+ * Answers 0, 2, 3, or 12 when all L are copied.
+ * Changes the side on 0.
  */
-uint32_t guc_receive_copy(uint32_t w[260], const uint32_t *desc, size_t desc_len,
-			  const uint32_t *buf, size_t n);
+GUC_ANSWER uint32_t guc_receive_copy(struct guc_receiver *r,
+				     const struct guc_descriptor *desc,
+				     const uint32_t *ring, size_t n);
+
+/*
+ * The same of every dword that is left: what that many guc_receive_copy do, one
+ * after another, in at most two straight runs.
+ * Answers as guc_receive_copy.
+ * Changes the side on 0.
+ */
+GUC_ANSWER uint32_t guc_receive_copy_all(struct guc_receiver *r,
+					 const struct guc_descriptor *desc,
+					 const uint32_t *ring, size_t n);
 
 /*
  * A receive's last step: judges the copied message, HEAD = (own head + L) mod N.
- * The ring is not read again. out must have at least 256 dwords.
- * Answers 0 and L, or 1, 2, 3, 5, 12 (dwords still to be copied) or 13.
- * Changes, on 0, the state (idle, past the message), HEAD and the first L
- * dwords of out; on 13 the state and HEAD in the same way, and not out.
+ * The ring is not read again. out must have at least GUC_MESSAGE_DWORDS dwords.
+ * Answers 0 and L, or 2, 3, 5, 12 (dwords still to be copied) or 13.
+ * Changes, on 0, the side (idle, past the message), HEAD and the first L
+ * dwords of out; on 13 the side and HEAD in the same way, and not out.
  */
-struct guc_received guc_receive_publish(uint32_t w[260],
-					uint32_t *desc, size_t desc_len,
-					const uint32_t *buf, size_t n,
-					uint32_t *out, size_t out_len);
+GUC_ANSWER struct guc_received
+guc_receive_publish(struct guc_receiver *r, struct guc_descriptor *desc,
+		    const uint32_t *ring, size_t n, uint32_t *out, size_t out_len);
 
 /*
  * A whole receive: look, copies and publish, or the look's refusal.
- * Answers 0 and L, or 1, 2, 3, 5, 6, 7, 8, 9, 11 or 13.
+ * Answers 0 and L, or 2, 3, 5, 6, 7, 8, 9, 11 or 13.
  * Changes what guc_receive_publish changes on 0 and 13; STATUS on 7, 8 and 9.
  */
-struct guc_received guc_receive(uint32_t w[260], uint32_t *desc, size_t desc_len,
-				const uint32_t *buf, size_t n,
-				uint32_t *out, size_t out_len);
+GUC_ANSWER struct guc_received
+guc_receive(struct guc_receiver *r, struct guc_descriptor *desc,
+	    const uint32_t *ring, size_t n, uint32_t *out, size_t out_len);
+
+/*
+ * The opening and the whole calls of sides that make no others: guc_open,
+ * guc_send and guc_receive, answer for answer and word for word, on two words.
+ */
+GUC_ANSWER uint32_t guc_whole_open(struct guc_whole_sender *s, struct guc_whole_receiver *r,
+				   struct guc_descriptor *desc,
+				   const uint32_t *ring, size_t n);
+GUC_ANSWER uint32_t guc_whole_send(struct guc_whole_sender *s, struct guc_descriptor *desc,
+				   uint32_t *ring, size_t n,
+				   const uint32_t *msg, size_t msg_len);
+GUC_ANSWER struct guc_received
+guc_whole_receive(struct guc_whole_receiver *r, struct guc_descriptor *desc,
+		  const uint32_t *ring, size_t n, uint32_t *out, size_t out_len);
 
 /*
  * MESSAGES
@@ -349,7 +400,7 @@ struct guc_received guc_receive(uint32_t w[260], uint32_t *desc, size_t desc_len
  * type has one field.
  * Changes nothing.
  */
-struct guc_packed guc_pack(uint32_t origin, uint32_t fence, uint32_t num_dwords,
+GUC_ANSWER struct guc_packed guc_pack(uint32_t origin, uint32_t fence, uint32_t num_dwords,
 			   uint32_t type, uint32_t first, uint32_t second);
 
 /*
@@ -358,7 +409,7 @@ struct guc_packed guc_pack(uint32_t origin, uint32_t fence, uint32_t num_dwords,
  * Answers 0, or 4 for a malformed message.
  * Changes nothing.
  */
-struct guc_unpacked guc_unpack(const uint32_t *msg, size_t len);
+GUC_ANSWER struct guc_unpacked guc_unpack(const uint32_t *msg, size_t len);
 
 /*
  * FIRMWARE
@@ -375,52 +426,56 @@ struct guc_unpacked guc_unpack(const uint32_t *msg, size_t len);
  * Judges a CSS image. Truncated: the blob ends before modulus and exponent do.
  * Answers 0, 15, 16 or 17.
  */
-struct guc_css guc_css_answer(const uint8_t *blob, size_t len);
+GUC_ANSWER struct guc_css guc_css_answer(const uint8_t *blob, size_t len);
 
 /*
  * Where a component lies. The modulus and the exponent of a truncated image are
  * answered by 0 with truncated 1, start 0 and len 0.
  * Answers 0, 15, 16, 17 or 101.
  */
-struct guc_part guc_css_part(const uint8_t *blob, size_t len, uint32_t which);
+GUC_ANSWER struct guc_part guc_css_part(const uint8_t *blob, size_t len, uint32_t which);
 
 /*
  * Copies a component to dst, which has room bytes. A component of 0 bytes, and
  * the modulus and exponent of a truncated image, are answered by 0 with len 0.
  * Answers 0, 15, 16, 17, 100 or 101.
  */
-struct guc_copied guc_css_copy(const uint8_t *blob, size_t len, uint32_t which,
+GUC_ANSWER struct guc_copied guc_css_copy(const uint8_t *blob, size_t len, uint32_t which,
 			       uint8_t *dst, size_t room);
 
 /*
  * The version of a CSS image, truncated or not.
  * Answers 0, 15, 16 or 17.
  */
-struct guc_version guc_css_version(const uint8_t *blob, size_t len);
+GUC_ANSWER struct guc_version guc_css_version(const uint8_t *blob, size_t len);
+
+/* A literal name of an entry, and its length. */
+#define GUC_NAME(literal) (literal), sizeof(literal) - 1
 
 /*
  * Where the part of a code partition directory lies whose entry has this name.
- * The name has 1 to 12 bytes and no zero among them. A name that more than one
+ * The name has 1 to 12 bytes and no zero among them, nor one behind them that
+ * counts: GUC_NAME("huc_fw") is a literal and its length. A name that more than one
  * entry has is refused by 22, wherever they stand, also where the entries are
  * alike or their parts lie beyond the blob.
  * Answers 0, 14, 15, 18, 19, 20, 22 or 21.
  */
-struct guc_part guc_cpd_part(const uint8_t *blob, size_t len,
-			     const uint8_t *name, size_t name_len);
+GUC_ANSWER struct guc_part guc_cpd_part(const uint8_t *blob, size_t len,
+			     const char *name, size_t name_len);
 
 /*
  * Copies that part to dst, which has room bytes.
  * Answers 0, 14, 15, 18, 19, 20, 22, 21 or 100.
  */
-struct guc_copied guc_cpd_copy(const uint8_t *blob, size_t len,
-			       const uint8_t *name, size_t name_len,
+GUC_ANSWER struct guc_copied guc_cpd_copy(const uint8_t *blob, size_t len,
+			       const char *name, size_t name_len,
 			       uint8_t *dst, size_t room);
 
 /*
  * The firmware version in the directory's part "HUCP.man".
  * Answers 0, 15 (blob below 20 bytes or part below 44), 18, 19, 20, 22 or 21.
  */
-struct guc_manifest guc_manifest_version(const uint8_t *blob, size_t len);
+GUC_ANSWER struct guc_manifest guc_manifest_version(const uint8_t *blob, size_t len);
 
 /*
  * The CSS image that is the directory's part "huc_fw", judged as a blob of its
@@ -430,11 +485,44 @@ struct guc_manifest guc_manifest_version(const uint8_t *blob, size_t len);
  * Answer 0, 15, 16, 17, 18, 19, 20, 22 or 21; guc_huc_part also 101,
  * guc_huc_copy also 100 and 101.
  */
-struct guc_css guc_huc_answer(const uint8_t *blob, size_t len);
-struct guc_part guc_huc_part(const uint8_t *blob, size_t len, uint32_t which);
-struct guc_copied guc_huc_copy(const uint8_t *blob, size_t len, uint32_t which,
+GUC_ANSWER struct guc_css guc_huc_answer(const uint8_t *blob, size_t len);
+GUC_ANSWER struct guc_part guc_huc_part(const uint8_t *blob, size_t len, uint32_t which);
+GUC_ANSWER struct guc_copied guc_huc_copy(const uint8_t *blob, size_t len, uint32_t which,
 			       uint8_t *dst, size_t room);
-struct guc_version guc_huc_version(const uint8_t *blob, size_t len);
+GUC_ANSWER struct guc_version guc_huc_version(const uint8_t *blob, size_t len);
+
+/* A sentence for each number, for a log. */
+static inline const char *guc_strerror(uint32_t number)
+{
+	switch (number) {
+	case GUC_OK: return "accepted";
+	case GUC_BAD_DESCRIPTOR: return "the descriptor is not 16 dwords";
+	case GUC_BAD_BUFFER: return "a ring has a multiple of 1024 dwords, from 1024 to 16384";
+	case GUC_BAD_STATE: return "the state does not fit: another step is due, or another ring";
+	case GUC_BAD_MESSAGE: return "the message is malformed";
+	case GUC_SHORT_OUTPUT: return "the output is shorter than 256 dwords";
+	case GUC_BROKEN: return "STATUS is not 0";
+	case GUC_OVERFLOW: return "HEAD or TAIL is outside the ring";
+	case GUC_MISMATCH: return "TAIL is not the sender's own tail, or HEAD not the receiver's own head";
+	case GUC_UNDERFLOW: return "the message is longer than what is used";
+	case GUC_FULL: return "the message is longer than what is free";
+	case GUC_EMPTY: return "nothing pending";
+	case GUC_OUT_OF_TURN: return "publish before the last dword is moved, or a dword moved after the last";
+	case GUC_MALFORMED: return "the message is whole but malformed";
+	case GUC_BAD_FIELD: return "a field too wide, NUM_DWORDS 0, or a name not 1 to 12 bytes without a zero";
+	case GUC_SHORT_BLOB: return "the blob or the part is too short for its header";
+	case GUC_CSS_SIZES: return "the sizes disagree";
+	case GUC_CSS_BEYOND: return "a part of the image lies beyond the blob";
+	case GUC_CPD_HEADER: return "the marker is wrong or the header length is below 20";
+	case GUC_CPD_ENTRIES: return "the entries lie beyond the blob";
+	case GUC_NO_ENTRY: return "no entry of that name";
+	case GUC_CPD_BEYOND: return "the entry's part lies beyond the blob";
+	case GUC_DUPLICATE_ENTRY: return "more than one entry has that name";
+	case GUC_NO_ROOM: return "the destination is too short";
+	case GUC_NO_SUCH: return "no such type or component";
+	default: return "no answer has this number";
+	}
+}
 
 #ifdef __cplusplus
 }
