@@ -1,1 +1,3 @@
 pub mod InWords
+pub mod Wholes
+pub mod TwoWords
