@@ -1,5 +1,5 @@
 -- What the steps of both sides share: the place of the next dword, the offset past the message, and one step after another.
-use Prim.Native.Nat.{ℕ, zero, suc, _+_, _%_}
+use Prim.Native.Nat.{ℕ, zero, suc, _+_, _-_, _%_}
 use mathlib.Core.List.{List}
 use lib.ListN.{length}
 use Rattle.channel.specs.State.{State}
@@ -24,3 +24,8 @@ moveAfter move x = move (x .next) (x .desc) (x .buf)
 unfoldable pub moves : Move → ℕ → Outcome → Outcome
 moves move zero x = x
 moves move (suc k) x = moves move k (moveAfter move x)
+
+-- ours: all the moves that are left, in one call: the next one, and after it as many as are left of L, one after another. (Where the next one is refused the others
+-- are refused in the same way, and nothing changes.)
+abbrev pub allMoves : Move → State → List ℕ → List ℕ → Outcome
+allMoves move s d b = moves move (s .len - s .moved - 1) (move s d b)

@@ -3,6 +3,7 @@
 ghost use mathlib.Core.Path.{_≡_};
 ghost use mathlib.Core.List.{[]};
 ghost use Rattle.channel.specs.Opening.{opening};
+ghost use Rattle.channel.specs.Steps.{allMoves};
 ghost use Rattle.channel.specs.Send;
 ghost use Rattle.channel.specs.Receive;
 ghost use Rattle.side.specs.Words.{stateOf, inWords, openedWords};
@@ -52,6 +53,17 @@ pub extern "C" fn guc_send_store(
 }
 
 #[no_mangle]
+pub extern "C" fn guc_send_store_all(
+    w: &mut [u32; STATE_WORDS],
+    desc: &[u32; DESCRIPTOR_DWORDS],
+    buf: &mut [u32],
+) -> u32
+    ensures { λ r. ⌜ inWords r 0 (now (w .exit)) (now (desc .entry)) (now (buf .exit)) [] ≡ allMoves Send.move (stateOf (now (w .entry))) (now (desc .entry)) (now (buf .entry)) ⌝ }
+{
+    side::send_store_all(w, &desc[..], buf)
+}
+
+#[no_mangle]
 pub extern "C" fn guc_send_publish(
     w: &mut [u32; STATE_WORDS],
     desc: &mut [u32; DESCRIPTOR_DWORDS],
@@ -94,6 +106,17 @@ pub extern "C" fn guc_receive_copy(
     ensures { λ r. ⌜ inWords r 0 (now (w .exit)) (now (desc .entry)) (now (buf .entry)) [] ≡ Receive.move (stateOf (now (w .entry))) (now (desc .entry)) (now (buf .entry)) ⌝ }
 {
     side::receive_copy(w, &desc[..], buf)
+}
+
+#[no_mangle]
+pub extern "C" fn guc_receive_copy_all(
+    w: &mut [u32; STATE_WORDS],
+    desc: &[u32; DESCRIPTOR_DWORDS],
+    buf: &[u32],
+) -> u32
+    ensures { λ r. ⌜ inWords r 0 (now (w .exit)) (now (desc .entry)) (now (buf .entry)) [] ≡ allMoves Receive.move (stateOf (now (w .entry))) (now (desc .entry)) (now (buf .entry)) ⌝ }
+{
+    side::receive_copy_all(w, &desc[..], buf)
 }
 
 #[no_mangle]

@@ -4,6 +4,7 @@ ghost use mathlib.Core.List.{List, [], _++_};
 ghost use Prim.Native.Nat.{ℕ, _+_, _≤_, _<_};
 ghost use lib.ListN.{length, getD, take, drop};
 ghost use Rattle.runs.specs.Buffer;
+ghost use Rattle.channel.specs.Steps.{allMoves};
 ghost use Rattle.channel.specs.Receive;
 ghost use Rattle.side.specs.Words.{stateOf, inWords};
 use crate::words::COPY;
@@ -79,6 +80,26 @@ pub fn receive_copy(w: &mut [u32; STATE_WORDS], desc: &[u32], buf: &[u32]) -> u3
     }
     w[COPY + moved] = dword_at(buf, past(s.own, moved, n));
     w[MOVED] = (moved + 1) as u32;
+    0
+}
+
+// Copies every dword of the message that is left, at once. Each is read once, and judged at publish.
+pub fn receive_copy_all(w: &mut [u32; STATE_WORDS], desc: &[u32], buf: &[u32]) -> u32
+    ensures { λ r. ⌜ inWords r 0 (now (w .exit)) (now (desc .entry)) (now (buf .entry)) [] ≡ allMoves Receive.move (stateOf (now (w .entry))) (now (desc .entry)) (now (buf .entry)) ⌝ }
+{
+    let n = buf.len();
+    let s = counts_of(&w[..]);
+    let moved = s.moved;
+    let len = s.len;
+    let rest = need(moved < len, refusal::OUT_OF_TURN, 0);
+    let code = receiving_number(s, w[HEADER], desc.len(), n, rest);
+    if code != 0 {
+        return code;
+    }
+    let from = COPY + moved;
+    let to = COPY + len;
+    runs::load_dwords(&mut w[from..to], buf, past(s.own, moved, n));
+    w[MOVED] = len as u32;
     0
 }
 
