@@ -8,7 +8,7 @@ use native.Mathlib.Numerals.{add-one}
 use lib.ListN.{length, getD, set, take, drop, take-append-drop, length-append, List·getD-append, length-drop}
 use lib.Seq.{append-snoc, drop-cons, getD-drop, getD-take, length-take-le, set-at}
 use lib.Dec.{leb}
-use borrow.Author.Tests.{leb-true, le-leb, lt-ltb, ltb-true}
+use borrow.Author.Tests.{leb-true, le-leb, lt-ltb, ltb-true, ne-eqb}
 use Rattle.message.proofs.Tests.{and-l, and-r}
 use Rattle.ring.specs.Numbers.{firstNeeds, need}
 use Rattle.ring.proofs.Chains.{entered, entered-fits, tested}
@@ -22,13 +22,21 @@ use Rattle.channel.specs.Receive
 use Rattle.channel.proofs.Going.{going-test}
 
 -- a move that is refused changes nothing, so that those after it are refused in the same way
-pub all-refused : (move : Move) (s : State) (d b : List ℕ) (c : ℕ) → move s d b ≡ refused c s d b [] → allMoves move s d b ≡ refused c s d b []
+all-refused : (move : Move) (s : State) (d b : List ℕ) (c : ℕ) → move s d b ≡ refused c s d b [] → allMoves move s d b ≡ refused c s d b []
 unfolding moves
 all-refused move s d b c e = ap (moves move (s .len - s .moved - 1)) e ∙ stays (s .len - s .moved - 1)
   where
     stays : (k : ℕ) → moves move k (refused c s d b []) ≡ refused c s d b []
     stays zero = refl
     stays (suc k) = ap (moves move k) e ∙ stays k
+
+pub send-refused : (s : State) (d b : List ℕ) (c : ℕ) → c ≡ Send.moveNumber s d b → (c ≡ 0 → ⊥) → refused c s d b [] ≡ allMoves Send.move s d b
+unfolding Send.moveBy
+send-refused s d b c e z = sym (all-refused Send.move s d b c (rw (← e, ne-eqb c 0 z)))
+
+pub receive-refused : (s : State) (d b : List ℕ) (c : ℕ) → c ≡ Receive.moveNumber s d b → (c ≡ 0 → ⊥) → refused c s d b [] ≡ allMoves Receive.move s d b
+unfolding Receive.moveBy
+receive-refused s d b c e z = sym (all-refused Receive.move s d b c (rw (← e, ne-eqb c 0 z)))
 
 -- moves that go a way, each a step further: from its start on, all that are left lead to its end
 module _ (move : Move) (way : ℕ → Outcome) where
@@ -44,6 +52,30 @@ module _ (move : Move) (way : ℕ → Outcome) where
   to-the-end s d b h e f =
       let j = s .len - s .moved - 1 in
       ap (moves move (suc j)) e ∙ in-turn (suc j) 0 (s .len - s .moved) f (omega arith) ∙ ap way (omega arith)
+
+-- what a move has that is accepted, of a send and of a receive
+module _ (s : State) (d b : List ℕ) where
+  module _ (e : Send.moveNumber s d b ≡ 0) where
+    pub send-more : s .moved < s .len
+    unfolding Send.moveNumber
+    send-more = ltb-true (s .moved) (s .len) (going-test _ _ _ _ e)
+
+    pub send-two : 2 ≤ s .len
+    unfolding Send.moveNumber activeSend
+    send-two =
+        let a = entered-fits _ _ _ _ 0 refl refl refl e in
+        leb-true 2 (s .len) (search (and-l, and-r))
+
+  module _ (e : Receive.moveNumber s d b ≡ 0) where
+    pub receive-more : s .moved < s .len
+    unfolding Receive.moveNumber
+    receive-more = ltb-true (s .moved) (s .len) (going-test _ _ _ _ e)
+
+    receive-begun : 1 ≤ s .moved
+    unfolding Receive.moveNumber activeReceive
+    receive-begun =
+        let a = entered-fits _ _ _ _ 0 refl refl refl e in
+        leb-true 1 (s .moved) (search (and-l, and-r))
 
 -- a step after one that was accepted, on a state that fits as well
 again : (d n : ℕ) (fits t : Bool) (r q : ℕ) → firstNeeds d n fits r ≡ 0 → t ≡ true → q ≡ 0 → firstNeeds d n t q ≡ 0
@@ -67,10 +99,6 @@ module _ (s : State) (d b : List ℕ) where
       record { code = 0; len = 0; next = sending k; desc = d; buf = stored b (length b) place (take k (drop (s .moved) (s .copy))); out = [] }
 
   module _ (e : Send.moveNumber s d b ≡ 0) (long : s .len ≤ length (s .copy)) where
-    send-more : s .moved < s .len
-    unfolding Send.moveNumber
-    send-more = ltb-true (s .moved) (s .len) (going-test _ _ _ _ e)
-
     active-send : (k : ℕ) → s .moved + k ≤ s .len → activeSend (length b) (sending k) ≡ true
     unfolding Send.moveNumber activeSend sending
     active-send k h =
@@ -107,8 +135,8 @@ module _ (s : State) (d b : List ℕ) where
     unfolding sent sending place stored
     all-sent =
         let z : s .moved + 0 ≡ s .moved = omega arith in
-        let l : s .moved + (s .len - s .moved) ≡ s .len = omega (arith, send-more) in
-        to-the-end Send.move sent s d b send-more (rw z) sent-more ∙ rw l
+        let l : s .moved + (s .len - s .moved) ≡ s .len = omega (arith, send-more s d b e) in
+        to-the-end Send.move sent s d b (send-more s d b e) (rw z) sent-more ∙ rw l
 
   -- ---- a receive
 
@@ -123,30 +151,21 @@ module _ (s : State) (d b : List ℕ) where
   taken k = record { code = 0; len = 0; next = taking k; desc = d; buf = b; out = [] }
 
   module _ (e : Receive.moveNumber s d b ≡ 0) (long : s .len ≤ length (s .copy)) where
-    receive-more : s .moved < s .len
-    unfolding Receive.moveNumber
-    receive-more = ltb-true (s .moved) (s .len) (going-test _ _ _ _ e)
-
-    -- the header is copied already
-    receive-begun : 1 ≤ s .moved
-    unfolding Receive.moveNumber activeReceive
-    receive-begun =
-        let a = entered-fits _ _ _ _ 0 refl refl refl e in
-        leb-true 1 (s .moved) (search (and-l, and-r))
-
     copied-header : (k : ℕ) → getD (copied k) 0 0 ≡ header s
     unfolding copied
     copied-header k =
-        let l : length (take (s .moved) (s .copy)) ≡ s .moved = length-take-le (s .moved) (s .copy) (omega (arith, receive-more)) in
-        List·getD-append (take (s .moved) (s .copy)) _ 0 0 (omega (arith, receive-begun)) ∙ getD-take (s .moved) (s .copy) 0 0 (omega (arith, receive-begun))
+        let l : length (take (s .moved) (s .copy)) ≡ s .moved = length-take-le (s .moved) (s .copy) (omega (arith, receive-more s d b e)) in
+        let o = receive-begun s d b e in
+        List·getD-append (take (s .moved) (s .copy)) _ 0 0 (omega arith) ∙ getD-take (s .moved) (s .copy) 0 0 o
 
     active-receive : (k : ℕ) → s .moved + k ≤ s .len → activeReceive (length b) (taking k) ≡ true
     unfolding Receive.moveNumber activeReceive taking
     active-receive k h =
         let a = entered-fits _ _ _ _ 0 refl refl refl e in
-        let o : leb 1 (s .moved) ≡ true = le-leb 1 (s .moved) receive-begun in
+        let o = receive-begun s d b e in
+        let v : leb 1 (s .moved) ≡ true = le-leb 1 (s .moved) o in
         let w : leb (s .moved) (s .len) ≡ true = le-leb (s .moved) (s .len) (omega arith) in
-        rw (copied-header k, le-leb 1 (s .moved + k) (omega (arith, receive-begun)), le-leb _ _ h) (rw (o, w) at a)
+        rw (copied-header k, le-leb 1 (s .moved + k) (omega arith), le-leb _ _ h) (rw (v, w) at a)
 
     receive-number : (k : ℕ) → s .moved + k < s .len → Receive.moveNumber (taking k) d b ≡ 0
     unfolding Receive.moveNumber taking
@@ -183,5 +202,5 @@ module _ (s : State) (d b : List ℕ) where
     unfolding taken taking copied place window
     all-taken =
         let z : s .moved + 0 ≡ s .moved = omega arith in
-        let l : s .moved + (s .len - s .moved) ≡ s .len = omega (arith, receive-more) in
-        to-the-end Receive.move taken s d b receive-more (rw (z, take-append-drop)) taken-more ∙ rw l
+        let l : s .moved + (s .len - s .moved) ≡ s .len = omega (arith, receive-more s d b e) in
+        to-the-end Receive.move taken s d b (receive-more s d b e) (rw (z, take-append-drop)) taken-more ∙ rw l

@@ -60,10 +60,10 @@ pub moved-is : (w : List ℕ) → getD w 3 0 ≡ stateOf w .moved
 unfolding stateOf
 moved-is w = refl
 
--- the words after a move of a send
-pub moved-set : (w : List ℕ) → length w ≡ 260 → stateOf (set w 3 (stateOf w .moved + 1)) ≡ Send.afterMove (stateOf w)
+-- the words after moves of a send
+pub moved-set : (x : ℕ) (w : List ℕ) → length w ≡ 260 → stateOf (set w 3 x) ≡ state (stateOf w .n) (stateOf w .own) (stateOf w .len) x (stateOf w .copy)
 unfolding stateOf
-moved-set = four (λ w. stateOf (set w 3 (stateOf w .moved + 1)) ≡ Send.afterMove (stateOf w)) (λ n own len moved copy e. refl)
+moved-set x = four (λ w. stateOf (set w 3 x) ≡ state (stateOf w .n) (stateOf w .own) (stateOf w .len) x (stateOf w .copy)) (λ n own len moved copy e. refl)
 
 -- the words with another N
 pub n-set : (x : ℕ) (w : List ℕ) → length w ≡ 260 → stateOf (set w 0 x) ≡ state x (stateOf w .own) (stateOf w .len) (stateOf w .moved) (stateOf w .copy)
