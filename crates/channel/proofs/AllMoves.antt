@@ -8,35 +8,22 @@ use native.Mathlib.Numerals.{add-one}
 use lib.ListN.{length, getD, set, take, drop, take-append-drop, length-append, List·getD-append, length-drop}
 use lib.Seq.{append-snoc, drop-cons, getD-drop, getD-take, length-take-le, set-at}
 use lib.Dec.{leb}
-use borrow.Author.Tests.{leb-true, le-leb, lt-ltb, ltb-true, ne-eqb}
-use Rattle.message.proofs.Tests.{and-l, and-r}
+use borrow.Author.Tests.{le-leb, lt-ltb, ne-eqb}
 use Rattle.ring.specs.Numbers.{firstNeeds, need}
 use Rattle.ring.proofs.Chains.{entered, entered-fits, tested}
 use Rattle.runs.specs.Buffer.{stored, window}
 use Rattle.runs.proofs.Ring.{stored-length, stored-take, window-append, window-length}
 use Rattle.channel.specs.State.{State, state, activeReceive, activeSend, header}
 use Rattle.channel.specs.Outcome.{Outcome, refused}
-use Rattle.channel.specs.Steps.{Move, allMoves, moveAfter, moves}
+use Rattle.channel.specs.Steps.{Move, allMovesBy, atFirst, moveAfter, moves}
 use Rattle.channel.specs.Send
 use Rattle.channel.specs.Receive
-use Rattle.channel.proofs.Going.{going-test}
+use Rattle.channel.proofs.Going.{receive-active, receive-moved, send-active, send-long}
 
--- a move that is refused changes nothing, so that those after it are refused in the same way
-all-refused : (move : Move) (s : State) (d b : List ℕ) (c : ℕ) → move s d b ≡ refused c s d b [] → allMoves move s d b ≡ refused c s d b []
-unfolding moves
-all-refused move s d b c e = ap (moves move (s .len - s .moved - 1)) e ∙ stays (s .len - s .moved - 1)
-  where
-    stays : (k : ℕ) → moves move k (refused c s d b []) ≡ refused c s d b []
-    stays zero = refl
-    stays (suc k) = ap (moves move k) e ∙ stays k
-
-pub send-refused : (s : State) (d b : List ℕ) (c : ℕ) → c ≡ Send.moveNumber s d b → (c ≡ 0 → ⊥) → refused c s d b [] ≡ allMoves Send.move s d b
-unfolding Send.moveBy
-send-refused s d b c e z = sym (all-refused Send.move s d b c (rw (← e, ne-eqb c 0 z)))
-
-pub receive-refused : (s : State) (d b : List ℕ) (c : ℕ) → c ≡ Receive.moveNumber s d b → (c ≡ 0 → ⊥) → refused c s d b [] ≡ allMoves Receive.move s d b
-unfolding Receive.moveBy
-receive-refused s d b c e z = sym (all-refused Receive.move s d b c (rw (← e, ne-eqb c 0 z)))
+-- a call that is refused makes no move
+pub all-refused : (move : Move) (s : State) (d b : List ℕ) (c x : ℕ) → c ≡ x → (c ≡ 0 → ⊥) → refused c s d b [] ≡ allMovesBy x move s d b
+unfolding allMovesBy
+all-refused move s d b c x e z = rw (← e, ne-eqb c 0 z)
 
 -- moves that go a way, each a step further: from its start on, all that are left lead to its end
 module _ (move : Move) (way : ℕ → Outcome) where
@@ -46,36 +33,32 @@ module _ (move : Move) (way : ℕ → Outcome) where
   in-turn (suc j) k l f h = ap (moves move j) (f k (omega arith)) ∙ in-turn j (k + 1) l f (omega arith) ∙ ap way (omega arith)
 
   to-the-end :
-      (s : State) (d b : List ℕ) → s .moved < s .len → refused 0 s d b [] ≡ way 0
-      → ((i : ℕ) → i < s .len - s .moved → moveAfter move (way i) ≡ way (i + 1)) → allMoves move s d b ≡ way (s .len - s .moved)
-  unfolding moves
-  to-the-end s d b h e f =
-      let j = s .len - s .moved - 1 in
-      ap (moves move (suc j)) e ∙ in-turn (suc j) 0 (s .len - s .moved) f (omega arith) ∙ ap way (omega arith)
+      (s : State) (d b : List ℕ) (c : ℕ) → c ≡ 0 → atFirst s d b ≡ way 0
+      → ((i : ℕ) → i < s .len - s .moved → moveAfter move (way i) ≡ way (i + 1)) → allMovesBy c move s d b ≡ way (s .len - s .moved)
+  unfolding allMovesBy
+  to-the-end s d b c z e f =
+      rw z (ap (moves move (s .len - s .moved)) e ∙ in-turn (s .len - s .moved) 0 (s .len - s .moved) f (omega arith) ∙ ap way (omega arith))
 
--- what a move has that is accepted, of a send and of a receive
+-- what a call that goes on has, of a send and of a receive
 module _ (s : State) (d b : List ℕ) where
-  module _ (e : Send.moveNumber s d b ≡ 0) where
-    pub send-more : s .moved < s .len
-    unfolding Send.moveNumber
-    send-more = ltb-true (s .moved) (s .len) (going-test _ _ _ _ e)
+  module _ (e : Send.goOnNumber s d b ≡ 0) where
+    send-fits : activeSend (length b) s ≡ true
+    unfolding Send.goOnNumber
+    send-fits = entered-fits _ _ _ _ 0 refl refl refl e
 
     pub send-two : 2 ≤ s .len
-    unfolding Send.moveNumber activeSend
-    send-two =
-        let a = entered-fits _ _ _ _ 0 refl refl refl e in
-        leb-true 2 (s .len) (search (and-l, and-r))
+    send-two = send-long (length b) s send-fits
 
-  module _ (e : Receive.moveNumber s d b ≡ 0) where
-    pub receive-more : s .moved < s .len
-    unfolding Receive.moveNumber
-    receive-more = ltb-true (s .moved) (s .len) (going-test _ _ _ _ e)
+    send-within : s .moved ≤ s .len
+    send-within = send-active (length b) s send-fits .within
 
-    receive-begun : 1 ≤ s .moved
-    unfolding Receive.moveNumber activeReceive
-    receive-begun =
-        let a = entered-fits _ _ _ _ 0 refl refl refl e in
-        leb-true 1 (s .moved) (search (and-l, and-r))
+  module _ (e : Receive.goOnNumber s d b ≡ 0) where
+    receive-fits : activeReceive (length b) s ≡ true
+    unfolding Receive.goOnNumber
+    receive-fits = entered-fits _ _ _ _ 0 refl refl refl e
+
+    receive-within : s .moved ≤ s .len
+    receive-within = receive-active (length b) s receive-fits .within
 
 -- a step after one that was accepted, on a state that fits as well
 again : (d n : ℕ) (fits t : Bool) (r q : ℕ) → firstNeeds d n fits r ≡ 0 → t ≡ true → q ≡ 0 → firstNeeds d n t q ≡ 0
@@ -98,16 +81,16 @@ module _ (s : State) (d b : List ℕ) where
   sent k =
       record { code = 0; len = 0; next = sending k; desc = d; buf = stored b (length b) place (take k (drop (s .moved) (s .copy))); out = [] }
 
-  module _ (e : Send.moveNumber s d b ≡ 0) (long : s .len ≤ length (s .copy)) where
+  module _ (e : Send.goOnNumber s d b ≡ 0) (long : s .len ≤ length (s .copy)) where
     active-send : (k : ℕ) → s .moved + k ≤ s .len → activeSend (length b) (sending k) ≡ true
-    unfolding Send.moveNumber activeSend sending
+    unfolding activeSend sending
     active-send k h =
-        let a = entered-fits _ _ _ _ 0 refl refl refl e in
+        let a = send-fits s d b e in
         let w : leb (s .moved) (s .len) ≡ true = le-leb (s .moved) (s .len) (omega arith) in
         rw (le-leb _ _ h) (rw w at a)
 
     send-number : (k : ℕ) → s .moved + k < s .len → Send.moveNumber (sending k) d (sent k .buf) ≡ 0
-    unfolding Send.moveNumber sent sending
+    unfolding Send.moveNumber Send.goOnNumber sent sending
     send-number k h =
         rw (stored-length b (length b) place (take k (drop (s .moved) (s .copy))))
         (again _ _ _ _ _ _ e (active-send k (omega arith)) (tested _ 12 (lt-ltb _ _ h)))
@@ -123,7 +106,7 @@ module _ (s : State) (d b : List ℕ) where
         rw (z, stored-length b (length b) place (take k m), p, q, ← getD-drop (s .moved) (s .copy) k 0, stored-take b (length b) place m k l, ← add-one k)
 
     pub all-sent :
-        allMoves Send.move s d b
+        Send.moveAll s d b
         ≡ record {
           code = 0;
           len = 0;
@@ -135,8 +118,8 @@ module _ (s : State) (d b : List ℕ) where
     unfolding sent sending place stored
     all-sent =
         let z : s .moved + 0 ≡ s .moved = omega arith in
-        let l : s .moved + (s .len - s .moved) ≡ s .len = omega (arith, send-more s d b e) in
-        to-the-end Send.move sent s d b (send-more s d b e) (rw z) sent-more ∙ rw l
+        let l : s .moved + (s .len - s .moved) ≡ s .len = omega (arith, send-within s d b e) in
+        to-the-end Send.move sent s d b (Send.goOnNumber s d b) e (rw z) sent-more ∙ rw l
 
   -- ---- a receive
 
@@ -150,25 +133,25 @@ module _ (s : State) (d b : List ℕ) where
   taken : ℕ → Outcome
   taken k = record { code = 0; len = 0; next = taking k; desc = d; buf = b; out = [] }
 
-  module _ (e : Receive.moveNumber s d b ≡ 0) (long : s .len ≤ length (s .copy)) where
+  module _ (e : Receive.goOnNumber s d b ≡ 0) (long : s .len ≤ length (s .copy)) where
     copied-header : (k : ℕ) → getD (copied k) 0 0 ≡ header s
     unfolding copied
     copied-header k =
-        let l : length (take (s .moved) (s .copy)) ≡ s .moved = length-take-le (s .moved) (s .copy) (omega (arith, receive-more s d b e)) in
-        let o = receive-begun s d b e in
+        let l : length (take (s .moved) (s .copy)) ≡ s .moved = length-take-le (s .moved) (s .copy) (omega (arith, receive-within s d b e)) in
+        let o = receive-moved (length b) s (receive-fits s d b e) in
         List·getD-append (take (s .moved) (s .copy)) _ 0 0 (omega arith) ∙ getD-take (s .moved) (s .copy) 0 0 o
 
     active-receive : (k : ℕ) → s .moved + k ≤ s .len → activeReceive (length b) (taking k) ≡ true
-    unfolding Receive.moveNumber activeReceive taking
+    unfolding activeReceive taking
     active-receive k h =
-        let a = entered-fits _ _ _ _ 0 refl refl refl e in
-        let o = receive-begun s d b e in
+        let a = receive-fits s d b e in
+        let o = receive-moved (length b) s a in
         let v : leb 1 (s .moved) ≡ true = le-leb 1 (s .moved) o in
         let w : leb (s .moved) (s .len) ≡ true = le-leb (s .moved) (s .len) (omega arith) in
         rw (copied-header k, le-leb 1 (s .moved + k) (omega arith), le-leb _ _ h) (rw (v, w) at a)
 
     receive-number : (k : ℕ) → s .moved + k < s .len → Receive.moveNumber (taking k) d b ≡ 0
-    unfolding Receive.moveNumber taking
+    unfolding Receive.moveNumber Receive.goOnNumber taking
     receive-number k h = again _ _ _ _ _ _ e (active-receive k (omega arith)) (tested _ 12 (lt-ltb _ _ h))
 
     copied-more : (k : ℕ) → s .moved + k < s .len → set (copied k) (s .moved + k) (getD b ((s .own + (s .moved + k)) % length b) 0) ≡ copied (k + 1)
@@ -190,7 +173,7 @@ module _ (s : State) (d b : List ℕ) where
         rw (receive-number k (omega arith), copied-more k (omega arith), q)
 
     pub all-taken :
-        allMoves Receive.move s d b
+        Receive.moveAll s d b
         ≡ record {
           code = 0;
           len = 0;
@@ -202,5 +185,5 @@ module _ (s : State) (d b : List ℕ) where
     unfolding taken taking copied place window
     all-taken =
         let z : s .moved + 0 ≡ s .moved = omega arith in
-        let l : s .moved + (s .len - s .moved) ≡ s .len = omega (arith, receive-more s d b e) in
-        to-the-end Receive.move taken s d b (receive-more s d b e) (rw (z, take-append-drop)) taken-more ∙ rw l
+        let l : s .moved + (s .len - s .moved) ≡ s .len = omega (arith, receive-within s d b e) in
+        to-the-end Receive.move taken s d b (Receive.goOnNumber s d b) e (rw (z, take-append-drop)) taken-more ∙ rw l

@@ -3,7 +3,6 @@
 ghost use mathlib.Core.Path.{_≡_};
 ghost use mathlib.Core.List.{[]};
 ghost use Rattle.channel.specs.Opening.{opening};
-ghost use Rattle.channel.specs.Steps.{allMoves};
 ghost use Rattle.channel.specs.Send;
 ghost use Rattle.channel.specs.Receive;
 ghost use Rattle.side.specs.Words.{stateOf, inWords, openedWords};
@@ -58,7 +57,7 @@ pub extern "C" fn guc_send_store_all(
     desc: &[u32; DESCRIPTOR_DWORDS],
     buf: &mut [u32],
 ) -> u32
-    ensures { λ r. ⌜ inWords r 0 (now (w .exit)) (now (desc .entry)) (now (buf .exit)) [] ≡ allMoves Send.move (stateOf (now (w .entry))) (now (desc .entry)) (now (buf .entry)) ⌝ }
+    ensures { λ r. ⌜ inWords r 0 (now (w .exit)) (now (desc .entry)) (now (buf .exit)) [] ≡ Send.moveAll (stateOf (now (w .entry))) (now (desc .entry)) (now (buf .entry)) ⌝ }
 {
     side::send_store_all(w, &desc[..], buf)
 }
@@ -114,7 +113,7 @@ pub extern "C" fn guc_receive_copy_all(
     desc: &[u32; DESCRIPTOR_DWORDS],
     buf: &[u32],
 ) -> u32
-    ensures { λ r. ⌜ inWords r 0 (now (w .exit)) (now (desc .entry)) (now (buf .entry)) [] ≡ allMoves Receive.move (stateOf (now (w .entry))) (now (desc .entry)) (now (buf .entry)) ⌝ }
+    ensures { λ r. ⌜ inWords r 0 (now (w .exit)) (now (desc .entry)) (now (buf .entry)) [] ≡ Receive.moveAll (stateOf (now (w .entry))) (now (desc .entry)) (now (buf .entry)) ⌝ }
 {
     side::receive_copy_all(w, &desc[..], buf)
 }

@@ -12,7 +12,6 @@ use Rattle.runs.proofs.Offsets.{past-is}
 use Rattle.runs.proofs.Ring.{stored-mod, window-length, window-mod}
 use Rattle.runs.proofs.Straight.{filled-there, stored-there}
 use Rattle.channel.specs.State.{State, state}
-use Rattle.channel.specs.Steps.{allMoves}
 use Rattle.channel.specs.Send
 use Rattle.channel.specs.Receive
 use Rattle.channel.proofs.AllMoves.{all-sent, all-taken}
@@ -89,17 +88,17 @@ module _ (w d b : List ℕ) (h : length w ≡ 260) where
   s = stateOf w
 
   pub all-stored :
-      (b′ : List ℕ) → Send.moveNumber s d b ≡ 0 → b′ ≡ stored b (length b) (s .own + s .moved) (take (s .len - s .moved) (drop (s .moved) (s .copy)))
-      → inWords 0 0 (set w 3 (s .len)) d b′ [] ≡ allMoves Send.move s d b
-  unfolding Send.moveNumber
+      (b′ : List ℕ) → Send.goOnNumber s d b ≡ 0 → b′ ≡ stored b (length b) (s .own + s .moved) (take (s .len - s .moved) (drop (s .moved) (s .copy)))
+      → inWords 0 0 (set w 3 (s .len)) d b′ [] ≡ Send.moveAll s d b
+  unfolding Send.goOnNumber
   all-stored b′ e f =
       let g : Going (length b) s = going-send _ _ _ _ 0 refl refl refl e in
       rw (f, moved-set (s .len) w h) (sym (all-sent s d b e (omega (arith, g .short, copy-long w h))))
 
   pub all-copied :
-      (w′ : List ℕ) → Receive.moveNumber s d b ≡ 0 → w′ ≡ withRun w (4 + s .moved) (window b (length b) (s .own + s .moved) (s .len - s .moved))
-      → inWords 0 0 (set w′ 3 (s .len)) d b [] ≡ allMoves Receive.move s d b
-  unfolding Receive.moveNumber
+      (w′ : List ℕ) → Receive.goOnNumber s d b ≡ 0 → w′ ≡ withRun w (4 + s .moved) (window b (length b) (s .own + s .moved) (s .len - s .moved))
+      → inWords 0 0 (set w′ 3 (s .len)) d b [] ≡ Receive.moveAll s d b
+  unfolding Receive.goOnNumber
   all-copied w′ e f =
       let g : Going (length b) s = going-receive _ _ _ _ 0 refl refl refl e in
       let k = window-length b (length b) (s .own + s .moved) (s .len - s .moved) in

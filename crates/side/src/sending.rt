@@ -4,7 +4,6 @@ ghost use mathlib.Core.List.{List, []};
 ghost use Prim.Native.Nat.{ℕ, _+_, _-_, _≤_, _<_};
 ghost use lib.ListN.{length, getD, take, drop};
 ghost use Rattle.runs.specs.Buffer.{stored};
-ghost use Rattle.channel.specs.Steps.{allMoves};
 ghost use Rattle.channel.specs.Send;
 ghost use Rattle.side.specs.Words.{stateOf, inWords};
 use crate::words::COPY;
@@ -83,7 +82,7 @@ fn store_left(
     moved: usize,
     len: usize,
 )
-    requires { ⌜ (length (now w) ≡ 260) × (header ≡ getD (now w) 4 0) × (word ≡ getD (now w) 5 0) × (moved < len) × (2 ≤ len) × (len ≤ 256) × (own < length (now buf)) × (1024 ≤ length (now buf)) × (length (now buf) ≤ 16384) ⌝ }
+    requires { ⌜ (length (now w) ≡ 260) × (header ≡ getD (now w) 4 0) × (word ≡ getD (now w) 5 0) × (moved ≤ len) × (2 ≤ len) × (len ≤ 256) × (own < length (now buf)) × (1024 ≤ length (now buf)) × (length (now buf) ≤ 16384) ⌝ }
     ensures { λ _. ⌜ now (buf .exit) ≡ stored (now (buf .entry)) (length (now (buf .entry))) (own + moved) (take (len - moved) (drop moved (stateOf (now (w .entry)) .copy))) ⌝ }
 {
     let n = buf.len();
@@ -102,7 +101,7 @@ fn store_left(
 
 // Stores every dword of the copy that is left, at once.
 pub fn send_store_all(w: &mut [u32; STATE_WORDS], desc: &[u32], buf: &mut [u32]) -> u32
-    ensures { λ r. ⌜ inWords r 0 (now (w .exit)) (now (desc .entry)) (now (buf .exit)) [] ≡ allMoves Send.move (stateOf (now (w .entry))) (now (desc .entry)) (now (buf .entry)) ⌝ }
+    ensures { λ r. ⌜ inWords r 0 (now (w .exit)) (now (desc .entry)) (now (buf .exit)) [] ≡ Send.moveAll (stateOf (now (w .entry))) (now (desc .entry)) (now (buf .entry)) ⌝ }
 {
     let n = buf.len();
     let s = counts_of(&w[..]);
@@ -110,7 +109,7 @@ pub fn send_store_all(w: &mut [u32; STATE_WORDS], desc: &[u32], buf: &mut [u32])
     let len = s.len;
     let header = w[HEADER];
     let word = w[SECOND];
-    let code = sending_number(s, header, word, desc.len(), n, moved < len);
+    let code = sending_number(s, header, word, desc.len(), n, true);
     if code != 0 {
         return code;
     }

@@ -4,8 +4,9 @@ use native.Mathlib.Omega.{arith}
 use lib.ListN.{length}
 use denote.Ref.{now}
 use borrow.Author.Needs.{needs}
+use Rattle.ring.specs.Numbers.{need}
 use Rattle.channel.specs.Send
-use Rattle.channel.proofs.AllMoves.{send-more, send-refused, send-two}
+use Rattle.channel.proofs.AllMoves.{all-refused, send-two}
 use Rattle.channel.proofs.Going.{Going, going-send}
 use Rattle.side.specs.Words.{stateOf}
 use Rattle.side.proofs.InWords.{words-sending}
@@ -17,20 +18,20 @@ use Rattle.side.proofs.sending.send_store_all.Tie as tie
 abbrev start : tie.After-sending-number → tie.Start
 start q = q .before .before .before .before .before .before .before .before
 
--- the number is that of a move
-number : (q : tie.After-sending-number) → let a = start q .args in q .sending-number .result ≡ Send.moveNumber (stateOf (now (a .w))) (now (a .desc)) (now (a .buf))
-unfolding Send.moveNumber
+-- its number is 1, 2 or 3, or 0
+number : (q : tie.After-sending-number) → let a = start q .args in q .sending-number .result ≡ Send.goOnNumber (stateOf (now (a .w))) (now (a .desc)) (now (a .buf))
+unfolding Send.goOnNumber need
 number q = rw (q .before .before .before .counts-of .ensures, words-sending) at (q .sending-number .ensures)
 
 returns : tie.Need-returns
-returns c = send-refused _ _ _ _ (number (c .before)) (c .if1 .taken)
+returns c = all-refused Send.move _ _ _ _ _ (number (c .before)) (c .if1 .taken)
 
 -- a call that goes on: its number is 0, and what it has by that
-accepted : (c : tie.Else1) → let a = start (c .before) .args in Send.moveNumber (stateOf (now (a .w))) (now (a .desc)) (now (a .buf)) ≡ 0
+accepted : (c : tie.Else1) → let a = start (c .before) .args in Send.goOnNumber (stateOf (now (a .w))) (now (a .desc)) (now (a .buf)) ≡ 0
 accepted c = sym (number (c .before)) ∙ c .if1 .left
 
 fits : (c : tie.Else1) → let a = start (c .before) .args in Going (length (now (a .buf))) (stateOf (now (a .w)))
-unfolding Send.moveNumber
+unfolding Send.goOnNumber
 fits c = going-send _ _ _ _ 0 refl refl refl (accepted c)
 
 store-left-requires : tie.Need-store-left-requires
@@ -38,7 +39,7 @@ store-left-requires c κs =
     let e = c .before .before .before in
     let g = fits e in
     rw (e .before .before .before .before .counts-of .ensures)
-    (search needs, refl, refl, send-more _ _ _ (accepted e), send-two _ _ _ (accepted e), g .short, g .own, g .low, g .high)
+    (search needs, refl, refl, g .within, send-two _ _ _ (accepted e), g .short, g .own, g .low, g .high)
 
 cast-w : tie.Need-cast-w
 cast-w c =
