@@ -80,6 +80,14 @@ static void time_rows(void)
         }
     }
 }
+// The stack below the last 64 bytes of a page, where struct page has nothing.
+__attribute__((noinline)) static void settled(void (*f)(void))
+{
+    volatile char *pad = __builtin_alloca(((uintptr_t)__builtin_frame_address(0) & 4095) + 64);
+    *pad = 0;
+    f();
+    *pad = 1;
+}
 static int less(const void *a, const void *b)
 {
     double x = *(const double *)a, y = *(const double *)b;
@@ -124,7 +132,7 @@ int main(int argc, char **argv)
     add_firmware_rows();
     if (!time) { count_rows(); return 0; }
     check_ways();
-    time_rows();
+    settled(time_rows);
     say_times();
     return 0;
 }

@@ -1,15 +1,22 @@
 // What the files of the benchmark share: ways to send and to receive, readers of firmware, rows, and the memory they all run on.
 #ifndef BENCH_H
 #define BENCH_H
-#include <stddef.h>
-#include <stdint.h>
+#include "baseline.h"
 
 enum { SAMPLES = 801 };               // blocks of each row, interleaved with all others
 typedef uint32_t (*block)(size_t k);  // makes k calls; answers 0, or what went wrong
 extern size_t N, L;                   // of the row under way; 0 where it has none
 
-// The channel's memory (channel.c), one for all ways.
-extern uint32_t desc[16], buf[16384], msgs[8][256], out[256];
+// The channel's memory (channel.c). What every call touches lies in one page, in the same place for all ways: where a store and a load
+// behind it agree in the last twelve bits of their addresses, processors wait, and a row could take half as long again.
+union side { struct ring ring; uint32_t words[272]; };
+struct page {
+    uint32_t desc[16];
+    union side sender, receiver;
+    uint32_t out[256];
+};
+extern struct page page;
+extern uint32_t buf[16384], msgs[8][256];
 extern uint32_t place, behind; // where every message starts and where the next one would, in rows that say so
 
 // One way to send and to receive. name is who:how. A row whose block is 0 it does not have.

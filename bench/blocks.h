@@ -7,24 +7,24 @@
 // send: the harness plays a reader that takes each message at once.
 // receive: the ring is full of messages and the harness plays a writer that refills what was read.
 // turn: real sends and receives one after another; check compares every message.
-// SEND sends the message m, RECEIVE receives into out.
+// SEND sends the message m, RECEIVE receives into page.out.
 #define ROUND_BLOCKS(v, SEND, RECEIVE) \
     __attribute__((noinline)) static uint32_t v##_send_block(size_t k) { \
         uint32_t bad = 0; \
-        for (size_t i = 0; i < k; i++) { const uint32_t *m = msgs[i % 8]; bad |= SEND; desc[0] = desc[1]; } \
+        for (size_t i = 0; i < k; i++) { const uint32_t *m = msgs[i % 8]; bad |= SEND; page.desc[0] = page.desc[1]; } \
         return bad; } \
     __attribute__((noinline)) static uint32_t v##_receive_block(size_t k) { \
         uint32_t bad = 0; \
         for (size_t i = 0; i < k; i++) { \
-            uint32_t head = desc[0]; RECEIVED r = RECEIVE; \
-            bad |= r.code | (r.len ^ L); desc[1] = head; } \
+            uint32_t head = page.desc[0]; RECEIVED r = RECEIVE; \
+            bad |= r.code | (r.len ^ L); page.desc[1] = head; } \
         return bad; } \
     static uint32_t v##_turns(size_t k, int check) { \
         uint32_t bad = 0; \
         for (size_t i = 0; i < k; i++) { \
             const uint32_t *m = msgs[i % 8]; bad |= SEND; \
             RECEIVED r = RECEIVE; bad |= r.code | (r.len ^ L); \
-            if (check && memcmp(out, m, 4 * L)) bad |= 1000; } \
+            if (check && memcmp(page.out, m, 4 * L)) bad |= 1000; } \
         return bad; } \
     __attribute__((noinline)) static uint32_t v##_turn_block(size_t k) { return v##_turns(k, 0); } \
     __attribute__((noinline)) static uint32_t v##_check_block(size_t k) { return v##_turns(k, 1); }
@@ -35,12 +35,12 @@
         uint32_t bad = 0; \
         for (size_t i = 0; i < k; i++) { \
             const uint32_t *m = msgs[i % 8]; \
-            OWN_TAIL = desc[0] = desc[1] = place; bad |= SEND; } \
+            OWN_TAIL = page.desc[0] = page.desc[1] = place; bad |= SEND; } \
         return bad; } \
     __attribute__((noinline)) static uint32_t v##_receive_there(size_t k) { \
         uint32_t bad = 0; \
         for (size_t i = 0; i < k; i++) { \
-            OWN_HEAD = desc[0] = place; desc[1] = behind; \
+            OWN_HEAD = page.desc[0] = place; page.desc[1] = behind; \
             RECEIVED r = RECEIVE; bad |= r.code | (r.len ^ L); } \
         return bad; }
 

@@ -3,10 +3,9 @@
 #include "bench.h"
 #include <string.h>
 
-uint32_t desc[16] __attribute__((aligned(64)));
+struct page page __attribute__((aligned(4096)));
 uint32_t buf[16384] __attribute__((aligned(4096)));
 uint32_t msgs[8][256] __attribute__((aligned(64)));
-uint32_t out[256] __attribute__((aligned(64)));
 uint32_t place, behind;
 
 // Eight messages of L dwords and an empty ring of N, everybody's offsets at that.
@@ -18,7 +17,7 @@ static void fresh(const struct way *w, uint32_t at)
         msgs[j][1] = 0x00010000u | j;
     }
     w->start(at);
-    desc[0] = desc[1] = at;
+    page.desc[0] = page.desc[1] = at;
 }
 // Offsets start in the middle of a message.
 static void start_round(const struct row *r) { fresh(r->way, L / 2 + (L > 2)); }
@@ -26,18 +25,18 @@ static void start_round(const struct row *r) { fresh(r->way, L / 2 + (L > 2)); }
 static void start_full(const struct row *r)
 {
     start_round(r);
-    for (size_t j = 0, at = desc[0]; j < N / L; j++) {
+    for (size_t j = 0, at = page.desc[0]; j < N / L; j++) {
         for (size_t i = 0; i < L; i++) {
             buf[at] = msgs[j % 8][i];
             at = at + 1 == N ? 0 : at + 1;
         }
     }
-    desc[1] = (desc[0] + N - L) % N;
+    page.desc[1] = (page.desc[0] + N - L) % N;
 }
 // Blocks are whole rounds, so the last message received is the last of a round.
 static void check_last(const struct row *r)
 {
-    if (!r->way->alone && memcmp(out, msgs[(N / L - 1) % 8], 4 * L)) die("received wrong by", r->name, 0);
+    if (!r->way->alone && memcmp(page.out, msgs[(N / L - 1) % 8], 4 * L)) die("received wrong by", r->name, 0);
 }
 
 // Zeros where the message goes and beside it, or the message itself where it is to be received.
@@ -52,18 +51,18 @@ static void start_pending(const struct row *r)
 {
     start_there(r);
     for (size_t i = 0; i < L; i++) buf[(place + i) % N] = msgs[7][i];
-    memset(out, 0, sizeof out);
+    memset(page.out, 0, sizeof page.out);
 }
 // The last message sent must lie there, with nothing stored beside it.
 static void check_ring(const struct row *r)
 {
     uint32_t bad = buf[behind] | buf[(place + N - 1) % N];
     for (size_t i = 0; i < L; i++) bad |= buf[(place + i) % N] ^ msgs[7][i];
-    if (bad || desc[1] != (r->way->alone ? place : behind)) die("sent wrong by", r->name, bad);
+    if (bad || page.desc[1] != (r->way->alone ? place : behind)) die("sent wrong by", r->name, bad);
 }
 static void check_out(const struct row *r)
 {
-    if (memcmp(out, msgs[7], 4 * L)) die("received wrong by", r->name, 0);
+    if (memcmp(page.out, msgs[7], 4 * L)) die("received wrong by", r->name, 0);
 }
 
 static void start_dword(const struct row *r)

@@ -7,54 +7,53 @@
 #define WHO "guc"
 #endif
 #define RECEIVED struct guc_received
-#define DESC ((struct guc_descriptor *)desc)
+#define DESC ((struct guc_descriptor *)page.desc)
+#define SENDER ((struct guc_sender *)&page.sender)
+#define RECEIVER ((struct guc_receiver *)&page.receiver)
+#define WHOLE_SENDER ((struct guc_whole_sender *)&page.sender)
+#define WHOLE_RECEIVER ((struct guc_whole_receiver *)&page.receiver)
 
-static struct guc_sender sender __attribute__((aligned(64)));
-static struct guc_receiver receiver __attribute__((aligned(64)));
-static struct guc_whole_sender whole_sender __attribute__((aligned(64)));
-static struct guc_whole_receiver whole_receiver __attribute__((aligned(64)));
-
-// Where own offset and moved dwords lie in a side of 260 words.
+// Where own offset and moved dwords lie in a side.
 enum { OWN = 1, MOVED = 3 };
 static void words_start(uint32_t at)
 {
-    if (guc_open(&sender, &receiver, DESC, buf, N)) die("open", WHO, 1);
-    sender.words[OWN] = receiver.words[OWN] = at;
+    if (guc_open(SENDER, RECEIVER, DESC, buf, N)) die("open", WHO, 1);
+    page.sender.words[OWN] = page.receiver.words[OWN] = at;
 }
 static void two_start(uint32_t at)
 {
-    if (guc_whole_open(&whole_sender, &whole_receiver, DESC, buf, N)) die("open", WHO, 2);
-    whole_sender.own = whole_receiver.own = at;
+    if (guc_whole_open(WHOLE_SENDER, WHOLE_RECEIVER, DESC, buf, N)) die("open", WHO, 2);
+    page.sender.words[OWN] = page.receiver.words[OWN] = at;
 }
 
 static uint32_t step_send(const uint32_t *m)
 {
-    uint32_t c = guc_send_look(&sender, DESC, buf, N, m, L);
-    for (size_t i = 0; i < L; i++) c |= guc_send_store(&sender, DESC, buf, N);
-    return c | guc_send_publish(&sender, DESC, buf, N);
+    uint32_t c = guc_send_look(SENDER, DESC, buf, N, m, L);
+    for (size_t i = 0; i < L; i++) c |= guc_send_store(SENDER, DESC, buf, N);
+    return c | guc_send_publish(SENDER, DESC, buf, N);
 }
 static struct guc_received step_receive(void)
 {
-    uint32_t c = guc_receive_look(&receiver, DESC, buf, N);
-    for (size_t i = 1; i < L; i++) c |= guc_receive_copy(&receiver, DESC, buf, N);
-    struct guc_received a = guc_receive_publish(&receiver, DESC, buf, N, out, 256);
+    uint32_t c = guc_receive_look(RECEIVER, DESC, buf, N);
+    for (size_t i = 1; i < L; i++) c |= guc_receive_copy(RECEIVER, DESC, buf, N);
+    struct guc_received a = guc_receive_publish(RECEIVER, DESC, buf, N, page.out, 256);
     a.code |= c;
     return a;
 }
 // Single dwords of a message of L: when all are moved, none is. The header comes with a receive's look.
 static void words_begun(void)
 {
-    uint32_t bad = guc_send(&sender, DESC, buf, N, msgs[0], L);
-    bad |= guc_receive_look(&receiver, DESC, buf, N);
-    bad |= guc_send_look(&sender, DESC, buf, N, msgs[1], L);
+    uint32_t bad = guc_send(SENDER, DESC, buf, N, msgs[0], L);
+    bad |= guc_receive_look(RECEIVER, DESC, buf, N);
+    bad |= guc_send_look(SENDER, DESC, buf, N, msgs[1], L);
     if (bad) die("look", WHO, bad);
 }
 __attribute__((noinline)) static uint32_t words_store(size_t k)
 {
     uint32_t bad = 0;
     for (size_t i = 0; i < k; i += L) {
-        sender.words[MOVED] = 0;
-        for (size_t j = 0; j < L; j++) bad |= guc_send_store(&sender, DESC, buf, N);
+        page.sender.words[MOVED] = 0;
+        for (size_t j = 0; j < L; j++) bad |= guc_send_store(SENDER, DESC, buf, N);
     }
     return bad;
 }
@@ -62,21 +61,21 @@ __attribute__((noinline)) static uint32_t words_copy(size_t k)
 {
     uint32_t bad = 0;
     for (size_t i = 0; i < k; i += L - 1) {
-        receiver.words[MOVED] = 1;
-        for (size_t j = 1; j < L; j++) bad |= guc_receive_copy(&receiver, DESC, buf, N);
+        page.receiver.words[MOVED] = 1;
+        for (size_t j = 1; j < L; j++) bad |= guc_receive_copy(RECEIVER, DESC, buf, N);
     }
     return bad;
 }
 
-#define WORDS guc_send(&sender, DESC, buf, N, m, L), guc_receive(&receiver, DESC, buf, N, out, 256)
-#define TWO guc_whole_send(&whole_sender, DESC, buf, N, m, L), guc_whole_receive(&whole_receiver, DESC, buf, N, out, 256)
+#define WORDS guc_send(SENDER, DESC, buf, N, m, L), guc_receive(RECEIVER, DESC, buf, N, page.out, 256)
+#define TWO guc_whole_send(WHOLE_SENDER, DESC, buf, N, m, L), guc_whole_receive(WHOLE_RECEIVER, DESC, buf, N, page.out, 256)
 // so that the two calls become two arguments
 #define ROUNDS_BY(v, ...) ROUND_BLOCKS(v, __VA_ARGS__)
 #define PLACES_BY(v, ...) PLACE_BLOCKS(v, __VA_ARGS__)
 ROUNDS_BY(words, WORDS)
-PLACES_BY(words, WORDS, sender.words[OWN], receiver.words[OWN])
+PLACES_BY(words, WORDS, page.sender.words[OWN], page.receiver.words[OWN])
 ROUNDS_BY(two, TWO)
-PLACES_BY(two, TWO, whole_sender.own, whole_receiver.own)
+PLACES_BY(two, TWO, page.sender.words[OWN], page.receiver.words[OWN])
 ROUNDS_BY(steps, step_send(m), step_receive())
 
 static struct way library_ways[] = {
@@ -88,15 +87,15 @@ static struct way library_ways[] = {
 #ifdef ALL
 static uint32_t all_send(const uint32_t *m)
 {
-    uint32_t c = guc_send_look(&sender, DESC, buf, N, m, L);
-    c |= guc_send_store_all(&sender, DESC, buf, N);
-    return c | guc_send_publish(&sender, DESC, buf, N);
+    uint32_t c = guc_send_look(SENDER, DESC, buf, N, m, L);
+    c |= guc_send_store_all(SENDER, DESC, buf, N);
+    return c | guc_send_publish(SENDER, DESC, buf, N);
 }
 static struct guc_received all_receive(void)
 {
-    uint32_t c = guc_receive_look(&receiver, DESC, buf, N);
-    c |= guc_receive_copy_all(&receiver, DESC, buf, N);
-    struct guc_received a = guc_receive_publish(&receiver, DESC, buf, N, out, 256);
+    uint32_t c = guc_receive_look(RECEIVER, DESC, buf, N);
+    c |= guc_receive_copy_all(RECEIVER, DESC, buf, N);
+    struct guc_received a = guc_receive_publish(RECEIVER, DESC, buf, N, page.out, 256);
     a.code |= c;
     return a;
 }

@@ -7,13 +7,14 @@
 #endif
 #define RECEIVED struct received
 
-static struct ring tx, rx;
-static void start(uint32_t at) { tx = rx = (struct ring){desc, buf, N, at}; }
+#define TX (&page.sender.ring)
+#define RX (&page.receiver.ring)
+static void start(uint32_t at) { *TX = *RX = (struct ring){page.desc, buf, N, at}; }
 
-#define BLOCKS(v, SEND, RECEIVE) ROUND_BLOCKS(v, SEND, RECEIVE) PLACE_BLOCKS(v, SEND, RECEIVE, tx.own, rx.own)
-BLOCKS(wrap, wrap_send(&tx, m, L), wrap_receive(&rx, out, 256))
-BLOCKS(runs, runs_send(&tx, m, L), runs_receive(&rx, out, 256))
-BLOCKS(plain, plain_send(&tx, m, L), plain_receive(&rx, out, L))
+#define BLOCKS(v, SEND, RECEIVE) ROUND_BLOCKS(v, SEND, RECEIVE) PLACE_BLOCKS(v, SEND, RECEIVE, TX->own, RX->own)
+BLOCKS(wrap, wrap_send(TX, m, L), wrap_receive(RX, page.out, 256))
+BLOCKS(runs, runs_send(TX, m, L), runs_receive(RX, page.out, 256))
+BLOCKS(plain, plain_send(TX, m, L), plain_receive(RX, page.out, L))
 static struct way plain_ways[] = {
     {.name = WHO ":wrap", .start = start, ROUNDS_OF(wrap), PLACES_OF(wrap)},
     {.name = WHO ":runs", .start = start, ROUNDS_OF(runs), PLACES_OF(runs)},
