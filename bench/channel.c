@@ -12,7 +12,7 @@ uint32_t place, behind;
 static void fresh(const struct way *w, uint32_t at)
 {
     for (size_t j = 0; j < 8; j++) {
-        for (size_t i = 0; i < 256; i++) msgs[j][i] = j << 16 | i * 0x01010101u;
+        for (size_t i = 0; i < 256; i++) msgs[j][i] = j << 16 ^ i * 0x01010101u; // no dword alike in two of them
         msgs[j][0] = (0x1230u + j) << 16 | (L - 1);
         msgs[j][1] = 0x00010000u | j;
     }

@@ -16,7 +16,7 @@ ARCHIVES = [('libguc', 'libguc.a', 'lib'), ('fast', 'libguc-fast.a', 'lib'), ('v
             ('kernel-moves', 'libguc-kernel.a', 'moves'), ('kernel-rep', 'libguc-kernel.a by rep', 'rep')]
 PLAIN = {'lib': '(b) call', 'moves': '(b) call, no SSE', 'rep': '(b) call, no SSE, by rep'}
 # At most so many instructions: of the two-word side as a multiple of (b) call's, of a dword stored and a dword copied in steps.
-LIMITS = {'libguc': (2.4, 80, 60), 'fast': (1.6, 80, 60), 'v3': (1.6, 80, 60), 'kernel-moves': (1.6, 80, 60)}
+LIMITS = {'libguc': (2.4, 80, 60), 'fast': (1.6, 80, 60), 'v3': (1.6, 80, 60), 'kernel-moves': (1.4, 80, 60)}
 counts, times = {}, {}
 
 
