@@ -28,7 +28,11 @@ void unexpected(const char *file, int line)
 		say(file);
 		say(":");
 		say_number((uint64_t)line);
-		say("\n");
+		say(", with message ");
+		say_number(book.sent);
+		say(" to be sent and ");
+		say_number(book.received);
+		say(" received\n");
 	}
 }
 
@@ -87,6 +91,14 @@ void write_message(uint32_t k, uint32_t *to)
 
 	for (i = 0; i < len; i++)
 		to[i] = message_dword(k, i);
+}
+
+void check_message(uint32_t k, const uint32_t *at)
+{
+	uint32_t i, len = message_length(k);
+
+	for (i = 0; i < len; i++)
+		EXPECT(at[i] == message_dword(k, i));
 }
 
 uint32_t book_free(void)
@@ -168,11 +180,8 @@ static void check_out_from(uint32_t i)
 
 void check_out(uint32_t k)
 {
-	uint32_t i, len = message_length(k);
-
-	for (i = 0; i < len; i++)
-		EXPECT(lent.out[i] == message_dword(k, i));
-	check_out_from(len);
+	check_message(k, lent.out);
+	check_out_from(message_length(k));
 }
 
 void check_out_unchanged(void)

@@ -58,10 +58,11 @@ void book_start(void);
 void book_open(uint32_t n);
 
 /* Message number k: its length, one of its dwords, and the whole of it written
- * somewhere. All lengths come up in each 255 numbers. */
+ * and looked for. All lengths come up in each 255 numbers. */
 uint32_t message_length(uint32_t k);
 uint32_t message_dword(uint32_t k, uint32_t i);
 void write_message(uint32_t k, uint32_t *to);
+void check_message(uint32_t k, const uint32_t *at);
 
 /* Dwords free for the next message to send. */
 uint32_t book_free(void);

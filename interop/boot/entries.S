@@ -1,7 +1,13 @@
 # Where interrupts and faults enter, all of them on the stack of whoever was interrupted, as in a kernel without stacks for them.
 
-# A frame and more below the stack pointer: whatever the interrupted code kept in a red zone of 128 bytes is gone.
+# Writes over all that lies below the stack pointer of whom it interrupts, for more than the 128 bytes of a red zone: the
+# 8 bytes that the processor leaves free where it aligns the stack first, then, below its frame and one register, 256.
     .macro litter
+    lea 48(%rsp), %rax
+    cmp %rax, 32(%rsp)
+    je 1f
+    movq $0x5A5A5A5A, (%rax)
+1:
     .rept 32
     push $0x5A5A5A5A
     .endr

@@ -35,7 +35,7 @@ start:
     rdmsr
     or $1 << 8, %eax                    # EFER.LME
     wrmsr
-    mov $1 << 31 | 1 << 16 | 1 << 2 | 1, %eax   # PG, WP, EM and PE: with EM an x87 or MMX instruction faults too
+    mov $1 << 31 | 1 << 16 | 0xF, %eax  # PG, WP, and TS, EM, MP beside PE: x87, MMX and wait fault as well
     mov %eax, %cr0
     lgdt gdt_at
     ljmp $8, $long_mode

@@ -121,6 +121,7 @@ static uint32_t send_stepped(void)
 	lent.message[1] = ~lent.message[1]; /* the side has a copy of its own */
 	EXPECT(send_look() == GUC_BAD_STATE);
 	store_message();
+	lent.message[1] = ~lent.message[1];
 	code = send_publish();
 	if (code == GUC_OK)
 		book_sent();

@@ -9,7 +9,10 @@
 
 enum {
 	LEAN = 128, /* turns before it leans the other way */
-	STEPPED = 1021 /* one turn in so many is interrupted after every instruction */
+	/* Interrupted after every instruction: one turn in so many, and of those whose
+	 * message goes around the end of the ring, where there is most to do. */
+	SELDOM = 1021,
+	OFTEN = 61
 };
 
 static void check_packed(uint32_t k)
@@ -31,20 +34,29 @@ static void check_packed(uint32_t k)
 	EXPECT(u.first == first && u.second == second);
 }
 
-static void turn_of_sender(const struct kind *kind)
+static int stepped(uint32_t turn, uint32_t from, uint32_t len)
 {
-	int fits = message_length(book.sent) <= book_free();
-
-	write_message(book.sent, lent.message);
-	EXPECT(kind->send() == (fits ? GUC_OK : GUC_FULL));
+	return turn % (from + len > book.n ? OFTEN : SELDOM) == 0;
 }
 
-static void turn_of_receiver(const struct kind *kind)
+static void turn_of_sender(const struct kind *kind, uint32_t turn)
+{
+	uint32_t k = book.sent;
+	int fits = message_length(k) <= book_free();
+
+	write_message(k, lent.message);
+	single_steps = stepped(turn, book.tail, message_length(k));
+	EXPECT(kind->send() == (fits ? GUC_OK : GUC_FULL));
+	check_message(k, lent.message);
+}
+
+static void turn_of_receiver(const struct kind *kind, uint32_t turn)
 {
 	uint32_t k = book.received, pending = book.sent - k;
 	struct guc_received answer;
 
 	mark_out();
+	single_steps = stepped(turn, book.head, message_length(k));
 	answer = kind->receive();
 	EXPECT(answer.code == (pending ? GUC_OK : GUC_EMPTY));
 	EXPECT(answer.len == (pending ? message_length(k) : 0));
@@ -66,11 +78,10 @@ void traffic(const struct kind *kind, uint32_t n, uint32_t messages)
 		uint32_t lean = turn / LEAN % 2 ? 1 : 3; /* of 4 */
 
 		random = random * 1664525 + 1013904223;
-		single_steps = turn % STEPPED == 0;
 		if (random >> 30 < lean && book.sent != last)
-			turn_of_sender(kind);
+			turn_of_sender(kind, turn);
 		else
-			turn_of_receiver(kind);
+			turn_of_receiver(kind, turn);
 		single_steps = 0;
 		kind->sides();
 		check_lent();
