@@ -7,7 +7,7 @@
 
 struct lent lent;
 struct book book;
-uint64_t total_messages, total_dwords, wrong;
+uint64_t total_messages, total_dwords, runs_copied, wrong;
 static _Alignas(8) uint32_t twin[LARGE_RING + GUARD];
 static uint32_t *const guards[] = {
 	lent.guard_0, lent.guard_1, lent.guard_2, lent.guard_3,

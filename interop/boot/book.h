@@ -43,8 +43,8 @@ struct book {
 };
 extern struct book book;
 
-/* Messages, dwords and wrong things of the whole run. */
-extern uint64_t total_messages, total_dwords, wrong;
+/* Messages, dwords, runs of the ring that were copied, and wrong things, in all. */
+extern uint64_t total_messages, total_dwords, runs_copied, wrong;
 
 /* What is not so is counted, and the first few are said. */
 #define EXPECT(so) ((so) ? (void)0 : unexpected(__FILE__, __LINE__))

@@ -19,7 +19,9 @@ static void say_result(void)
 	say_number(total_dwords);
 	say(" dwords, ");
 	say_number(wrong);
-	say(" wrong; on the same stack ");
+	say(" wrong; ");
+	say_number(runs_copied);
+	say(" runs copied, each before it was published; on the same stack ");
 	say_number(ticks);
 	say(" timer interrupts and ");
 	say_number(steps);
