@@ -129,13 +129,16 @@ static void malformed_message(int way)
 	EXPECT((way == WHOLE ? guc_receiver_own(&lent.receiver) : lent.whole_receiver.own) == 3);
 }
 
-/* A refused opening leaves the descriptor, and sides that fit no call. */
+/* A refused opening leaves the descriptor, and sides of zeros, which fit no call. */
 static void refused_openings(void)
 {
 	lay(1, 2, 3);
 	EXPECT(guc_open(&lent.sender, &lent.receiver, &lent.desc, lent.ring, 1000) == GUC_BAD_BUFFER);
 	EXPECT(guc_whole_open(&lent.whole_sender, &lent.whole_receiver, &lent.desc, NULL, 0) ==
 	       GUC_BAD_BUFFER);
+	for (int i = 0; i < GUC_STATE_WORDS; i++)
+		EXPECT(lent.sender.words[i] == 0 && lent.receiver.words[i] == 0);
+	EXPECT(lent.whole_sender.n == 0 && lent.whole_receiver.n == 0);
 	for (int way = 0; way < WAYS; way++) {
 		EXPECT(send(way, SMALL_RING, plain, 3) == GUC_BAD_STATE);
 		EXPECT(receive(way, SMALL_RING, lent.out, GUC_MESSAGE_DWORDS) == GUC_BAD_STATE);
