@@ -1,7 +1,9 @@
-# Where interrupts and faults enter, all of them on the stack of whoever was interrupted, as in a kernel without stacks for them.
+# Where interrupts and faults enter, all of them on the stack of whoever was interrupted, as in a kernel that has no
+# stacks for them.
 
-# Writes over all that lies below the stack pointer of whom it interrupts, for more than the 128 bytes of a red zone: the
-# 8 bytes that the processor leaves free where it aligns the stack first, then, below its frame and one register, 256.
+# Writes over all that lies below the stack pointer of whom it interrupts, for more than the 128 bytes of a red zone:
+# the 8 bytes that the processor leaves free where it aligns the stack first, then, below its frame and one register,
+# 256.
     .macro litter
     lea 48(%rsp), %rax
     cmp %rax, 32(%rsp)

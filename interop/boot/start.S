@@ -1,4 +1,5 @@
-# From a multiboot loader to kmain: long mode, the kernel in the top 2 GiB as kernels have it, and neither x87 nor MMX nor SSE to be had.
+# From a multiboot loader to kmain: long mode, the kernel in the top 2 GiB as kernels have it, and neither x87 nor MMX
+# nor SSE to be had.
     .set MAGIC, 0x1BADB002
     .set FLAGS, 1 << 16                 # the addresses below are the loader's guide, not a file format
 
