@@ -46,6 +46,30 @@ step_entry:
     pop %rax
     iretq
 
+# red_zone_left(counter, shift): how many of the 16 quadwords below rsp, lowered by shift, outlive an interrupt that is
+# counted there. It has to be none, or a red zone would go unnoticed.
+    .globl red_zone_left
+red_zone_left:
+    sub %rsi, %rsp
+    mov $16, %ecx
+1:  lea 0x7000000(%rcx), %rdx
+    mov %rdx, -136(%rsp, %rcx, 8)
+    dec %ecx
+    jnz 1b
+    mov (%rdi), %rdx
+2:  cmp %rdx, (%rdi)
+    je 2b
+    xor %eax, %eax
+    mov $16, %ecx
+3:  lea 0x7000000(%rcx), %rdx
+    cmp %rdx, -136(%rsp, %rcx, 8)
+    jne 4f
+    inc %eax
+4:  dec %ecx
+    jnz 3b
+    add %rsi, %rsp
+    ret
+
 # The 32 faults; each leaves its vector and, where the processor gave none, an error code of 0.
     .set WITH_CODE, 0x60227D00          # 8, 10 to 14, 17, 21, 29 and 30
     .balign 16

@@ -39,4 +39,8 @@ static inline void end_call(void)
 		__asm__ volatile("pushfq\n\tandq $~0x100, (%%rsp)\n\tpopfq" : : : "memory", "cc");
 }
 
+/* How many of 16 quadwords below the stack pointer, lowered by shift, outlive an
+ * interrupt that is counted there. */
+unsigned red_zone_left(const volatile uint64_t *counter, uint64_t shift);
+
 #endif /* MACHINE_H */

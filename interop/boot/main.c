@@ -32,10 +32,27 @@ static void say_result(void)
 	say(" of them inside the archive\n");
 }
 
+/* Interrupts of both kinds leave nothing of a red zone, however the stack lies. */
+static void check_interrupts(void)
+{
+	for (uint64_t shift = 0; shift <= 8; shift += 8) {
+		unsigned left;
+
+		EXPECT(red_zone_left(&ticks, shift) == 0);
+		single_steps = 1;
+		begin_call();
+		left = red_zone_left(&steps, shift);
+		end_call();
+		single_steps = 0;
+		EXPECT(left == 0);
+	}
+}
+
 void kmain(void)
 {
 	machine_start();
 	book_start();
+	check_interrupts();
 	traffic(&whole_calls, SMALL_RING, 20000);
 	traffic(&whole_calls, LARGE_RING, 20000);
 	traffic(&whole_sides, SMALL_RING, 20000);
