@@ -8,7 +8,7 @@
 #include "scenes.h"
 
 enum {
-	LEAN = 128, /* turns before it leans the other way */
+	LEAN = 48, /* it leans the other way after n / LEAN turns, when the ring was full or empty */
 	/* Interrupted after every instruction: one turn in so many, and of those whose
 	 * message goes around the end of the ring, where there is most to do. */
 	SELDOM = 1021,
@@ -75,7 +75,7 @@ void traffic(const struct kind *kind, uint32_t n, uint32_t messages)
 	EXPECT(kind->open(n) == GUC_OK);
 	book_open(n);
 	for (turn = 0; book.received != last && !wrong; turn++) {
-		uint32_t lean = turn / LEAN % 2 ? 1 : 3; /* of 4 */
+		uint32_t lean = turn / (n / LEAN) % 2 ? 1 : 3; /* of 4 */
 
 		random = random * 1664525 + 1013904223;
 		if (random >> 30 < lean && book.sent != last)
