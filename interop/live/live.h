@@ -11,10 +11,10 @@
 #define PAGE 4096u
 
 /* The parts. Each prints lines; what was wrong is counted by bad(). */
-void pairs(uint64_t seed, unsigned long messages);
-void besieged(uint64_t seed, unsigned long calls);
 void same(uint64_t seed, unsigned long calls);
 void order(uint64_t seed, unsigned long calls);
+void pairs(uint64_t seed, unsigned long messages);
+void siege(uint64_t seed, unsigned long calls);
 
 /* Complains as printf does; the first few are printed. */
 void bad(const char *format, ...) __attribute__((format(printf, 1, 2)));

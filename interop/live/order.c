@@ -188,9 +188,10 @@ void order(uint64_t seed, unsigned long calls)
 
 	running = "by their order";
 	begin_walk(&k, seed);
-	for (i = 0; i < calls; i++)
+	for (i = 0; i < calls && !bads(); i++)
 		trial();
-	end_walk(&k);
+	if (!bads())
+		end_walk(&k);
 	printf("%lu live calls by the order of their loads, fences and stores, %.1f s\n", calls,
 	       seconds() - began);
 	fflush(stdout);

@@ -20,6 +20,8 @@ struct end {
 	uint32_t *msg, *got;
 };
 
+#define PATIENCE 20.0 /* seconds in which nothing moved, and nothing will */
+
 static atomic_int stop;
 
 static void wrong(const struct end *e, const char *what, uint32_t code)
@@ -89,11 +91,24 @@ static int receive_one(struct end *e)
 	return 0;
 }
 
+/* Nothing was sent or received, for the waited-th time in a row. */
+static void wait_for_other(const struct end *e, unsigned waited, double *since)
+{
+	if (waited == 1)
+		*since = seconds();
+	if (waited % 1024 == 0 && seconds() - *since > PATIENCE) {
+		bad("thread %u, sent %lu, received %lu: nothing moves", e->which, e->sent, e->received);
+		atomic_store(&stop, 1);
+	}
+	wait_a_little(waited);
+}
+
 static void *run_end(void *p)
 {
 	struct end *e = p;
 	unsigned burst, waited = 0;
 	unsigned long before;
+	double since = 0;
 
 	on_processor(e->which);
 	while ((e->sent < e->total || e->received < e->total) && !atomic_load(&stop)) {
@@ -104,7 +119,7 @@ static void *run_end(void *p)
 			;
 		waited = before == e->sent + e->received ? waited + 1 : 0;
 		if (waited)
-			wait_a_little(waited);
+			wait_for_other(e, waited, &since);
 	}
 	return NULL;
 }
@@ -169,6 +184,6 @@ void pairs(uint64_t seed, unsigned long messages)
 	unsigned kind;
 
 	printf("two threads, each sends to the other (%u processors):\n", processors());
-	for (kind = 0; kind < KINDS; kind++)
-		pair((enum kind)kind, seed + kind, messages / share[kind] + 1);
+	for (kind = 0; kind < KINDS && !bads(); kind++)
+		pair((enum kind)kind, seed + kind, messages / share[kind]);
 }

@@ -15,13 +15,14 @@ void same(uint64_t seed, unsigned long calls)
 
 	running = "beside their twins";
 	begin_walk(&k, seed);
-	for (i = 0; i < calls; i++) {
+	for (i = 0; i < calls && !bads(); i++) {
 		lay_trial(&k);
 		plain = plain_call(&k.trial, &k.plain);
 		live = live_call(&k.trial, &k.live);
 		end_trial(&k, plain, live);
 	}
-	end_walk(&k);
+	if (!bads())
+		end_walk(&k);
 	printf("%lu live calls beside their twins of guc.h, %.1f s\n", calls, seconds() - began);
 	fflush(stdout);
 }

@@ -136,18 +136,18 @@ static void round_of(struct siege *s, enum kind kind, int ring_too, uint64_t see
 	fflush(stdout);
 }
 
-void besieged(uint64_t seed, unsigned long calls)
+void siege(uint64_t seed, unsigned long calls)
 {
-	static struct siege siege;
+	static struct siege laid;
 	unsigned kind;
 
-	lend_channel(&siege.ch);
-	siege.msg_end = (uint32_t *)lent(4 * GUC_MESSAGE_DWORDS) + GUC_MESSAGE_DWORDS;
-	siege.out = lent(4 * GUC_MESSAGE_DWORDS);
+	lend_channel(&laid.ch);
+	laid.msg_end = (uint32_t *)lent(4 * GUC_MESSAGE_DWORDS) + GUC_MESSAGE_DWORDS;
+	laid.out = lent(4 * GUC_MESSAGE_DWORDS);
 	printf("a sender, a receiver and one who scribbles; how often each answer came:\n");
 	for (kind = 0; kind < KINDS && !bads(); kind++) {
 		running = kind_name((enum kind)kind);
-		round_of(&siege, (enum kind)kind, 0, seed + 2 * kind, calls);
-		round_of(&siege, (enum kind)kind, 1, seed + 2 * kind + 1, calls);
+		round_of(&laid, (enum kind)kind, 0, seed + 2 * kind, calls);
+		round_of(&laid, (enum kind)kind, 1, seed + 2 * kind + 1, calls);
 	}
 }
