@@ -18,7 +18,7 @@ int main(int argc, char **argv)
 		void (*run)(uint64_t seed, unsigned long calls);
 		unsigned long calls;
 	} parts[] = {
-		{ "same", same, messages / 4 + 50000 },
+		{ "same", same, messages / 10 + 50000 },
 		{ "order", order, messages / 50 + 50000 },
 		{ "pairs", pairs, messages < 20000 ? 20000 : messages },
 		{ "siege", siege, messages / 20 + 1000 },

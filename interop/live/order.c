@@ -133,11 +133,6 @@ static unsigned written_by(uint32_t code)
 	return WORDS;
 }
 
-static int is_move(enum call c)
-{
-	return c == SEND_STORE || c == SEND_STORE_ALL || c == RECEIVE_COPY || c == RECEIVE_COPY_ALL;
-}
-
 static void check_seen(uint32_t code)
 {
 	unsigned written = written_by(code), stores = written < WORDS, loads = WORDS, which;

@@ -67,6 +67,12 @@ static inline uint32_t *out_of(const struct world *w, size_t len)
 	return w->out_end - len;
 }
 
+/* A store or a copy. */
+static inline int is_move(enum call c)
+{
+	return c == SEND_STORE || c == SEND_STORE_ALL || c == RECEIVE_COPY || c == RECEIVE_COPY_ALL;
+}
+
 const char *call_name(enum call call);
 
 void begin_walk(struct walk *k, uint64_t seed);
