@@ -47,6 +47,9 @@ extern "C" {
  *   #define GUC_FENCE_RELEASE()  smp_mb()   (for a device mb(), or dma_wmb() if we only send)
  *   #define GUC_FENCE_FULL()     mb()
  *
+ * or, with no instruction for the release on x86-64, smp_store_release(p, v) for
+ * GUC_STORE_WORD(p, v) and barrier() for GUC_FENCE_RELEASE().
+ *
  * For write-combined memory the fences must be instructions: rmb() (lfence) behind
  * the load in GUC_LOAD_ACQUIRE, and GUC_FENCE_RELEASE wmb() (sfence), or mb() if
  * we also receive. The defaults below are for write-back memory: on x86-64 the
