@@ -57,10 +57,13 @@ static void touched(int signal, siginfo_t *info, void *context)
 	_exit(1);
 }
 
-void catch_touches(void)
+static cpu_set_t allowed;
+
+void prepare(void)
 {
 	struct sigaction a;
 
+	sched_getaffinity(0, sizeof(allowed), &allowed);
 	memset(&a, 0, sizeof(a));
 	a.sa_flags = SA_SIGINFO;
 	a.sa_sigaction = touched;
@@ -139,12 +142,8 @@ size_t make_message(uint64_t seed, uint64_t i, uint32_t *msg)
 	return len;
 }
 
-static cpu_set_t allowed;
-
 unsigned processors(void)
 {
-	if (CPU_COUNT(&allowed) == 0)
-		sched_getaffinity(0, sizeof(allowed), &allowed);
 	return (unsigned)CPU_COUNT(&allowed);
 }
 
@@ -164,7 +163,7 @@ void on_processor(unsigned which)
 
 void wait_a_little(unsigned tried)
 {
-	if (tried > 50 || CPU_COUNT(&allowed) == 1)
+	if (tried > 50 || processors() == 1)
 		sched_yield();
 	else
 		__builtin_ia32_pause();

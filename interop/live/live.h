@@ -20,9 +20,11 @@ void siege(uint64_t seed, unsigned long calls);
 void bad(const char *format, ...) __attribute__((format(printf, 1, 2)));
 unsigned long bads(void);
 
-/* What runs, for a touch of memory that was not lent, which ends the program. */
+/* What runs, for complaints. */
 extern const char *running;
-void catch_touches(void);
+
+/* First of all: from now on a touch of memory that was not lent ends the program. */
+void prepare(void);
 
 uint64_t next_random(uint64_t *x);
 double seconds(void);

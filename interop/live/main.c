@@ -19,13 +19,13 @@ int main(int argc, char **argv)
 		unsigned long calls;
 	} parts[] = {
 		{ "same", same, messages / 10 + 50000 },
-		{ "order", order, messages / 50 + 50000 },
+		{ "order", order, messages / 100 + 50000 },
 		{ "pairs", pairs, messages < 20000 ? 20000 : messages },
-		{ "siege", siege, messages / 20 + 1000 },
+		{ "siege", siege, messages / 50 + 1000 },
 	};
 	size_t i;
 
-	catch_touches();
+	prepare();
 	for (i = 0; i < sizeof(parts) / sizeof(parts[0]); i++)
 		if (argc < 4 || !strcmp(argv[3], parts[i].name))
 			parts[i].run(seed + (seed == 0), parts[i].calls);

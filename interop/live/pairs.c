@@ -180,7 +180,7 @@ static void pair(enum kind kind, uint64_t seed, unsigned long messages)
 void pairs(uint64_t seed, unsigned long messages)
 {
 	/* a message in single steps takes some two hundred calls */
-	static const unsigned share[KINDS] = { 1, 1, 4, 20, 8 };
+	static const unsigned share[KINDS] = { 1, 1, 5, 20, 10 };
 	unsigned kind;
 
 	printf("two threads, each sends to the other (%u processors):\n", processors());

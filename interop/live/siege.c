@@ -94,19 +94,6 @@ static void afterwards(struct siege *s)
 		bad("opened again: %u of %u messages came", received, sent);
 }
 
-/* Says how often each answer came. That one never did is said and is not bad: chance
- * decides here, and order.c meets them all. */
-static void tell(const char *call, uint32_t answers, const unsigned long *counts)
-{
-	unsigned code;
-
-	printf("  %-9s", call);
-	for (code = 0; code < CODES; code++)
-		if (BIT(code) & answers)
-			printf(" %u:%lu%s", code, counts[code], counts[code] ? "" : " (nothing shown)");
-	printf("\n");
-}
-
 static void round_of(struct siege *s, enum kind kind, int ring_too, uint64_t seed, unsigned long calls)
 {
 	pthread_t sender, receiver;
@@ -127,27 +114,47 @@ static void round_of(struct siege *s, enum kind kind, int ring_too, uint64_t see
 	scribble_on(s);
 	pthread_join(sender, NULL);
 	pthread_join(receiver, NULL);
-	printf("%s, scribbled over: the descriptor%s\n", kind_name(kind), ring_too ? " and the ring" : "");
-	if (!bads()) {
-		tell("sends", SEND_ANSWERS, s->sends);
-		tell("receives", RECEIVE_ANSWERS, s->receives);
+	if (!bads())
 		afterwards(s);
-	}
-	fflush(stdout);
+}
+
+/* How often each answer came. That one never did is said and is not bad: chance
+ * decides here, and order.c meets them all. */
+static void tell(const char *call, uint32_t answers, const unsigned long *counts)
+{
+	unsigned code;
+
+	printf(" %s", call);
+	for (code = 0; code < CODES; code++)
+		if (BIT(code) & answers)
+			printf(" %u:%lu%s", code, counts[code], counts[code] ? "" : " (nothing shown)");
 }
 
 void siege(uint64_t seed, unsigned long calls)
 {
 	static struct siege laid;
-	unsigned kind;
+	unsigned kind, code;
 
 	lend_channel(&laid.ch);
 	laid.msg_end = (uint32_t *)lent(4 * GUC_MESSAGE_DWORDS) + GUC_MESSAGE_DWORDS;
 	laid.out = lent(4 * GUC_MESSAGE_DWORDS);
 	printf("a sender, a receiver and one who scribbles; how often each answer came:\n");
 	for (kind = 0; kind < KINDS && !bads(); kind++) {
+		unsigned long sends[CODES], receives[CODES];
+
 		running = kind_name((enum kind)kind);
 		round_of(&laid, (enum kind)kind, 0, seed + 2 * kind, calls);
+		memcpy(sends, laid.sends, sizeof(sends));
+		memcpy(receives, laid.receives, sizeof(receives));
 		round_of(&laid, (enum kind)kind, 1, seed + 2 * kind + 1, calls);
+		for (code = 0; code < CODES; code++) {
+			sends[code] += laid.sends[code];
+			receives[code] += laid.receives[code];
+		}
+		printf("%-24s", running);
+		tell("sends", SEND_ANSWERS, sends);
+		tell("receives", RECEIVE_ANSWERS, receives);
+		printf("\n");
+		fflush(stdout);
 	}
 }

@@ -24,7 +24,7 @@ struct siege {
 	uint64_t seed;
 	unsigned long calls;                         /* of each side, at least */
 	uint32_t *msg_end, *out;                     /* a message ends there; 256 dwords */
-	unsigned long sends[CODES], receives[CODES]; /* by their answer */
+	unsigned long sends[CODES], receives[CODES]; /* by their answer, in this round */
 	atomic_uint tail, head;                      /* own offsets of the two sides */
 	atomic_uint running;                         /* sides that still do */
 	atomic_ulong scribbles;                      /* by the third thread */
