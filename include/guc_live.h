@@ -6,7 +6,8 @@
  * changes, for a live descriptor and a live ring:
  *
  * - STATUS, HEAD and TAIL are read once each, into a descriptor of the caller's
- *   own on the stack, and guc_X runs on that. So nobody writes what it judges.
+ *   own on the stack, and guc_X runs on that, which nobody else can write. What
+ *   holds of a ring that somebody writes meanwhile is said in guc.h.
  * - The one word that guc_X changed is written back: TAIL after an accepted send or
  *   publish, HEAD after 0 or 13 of a receive or publish, STATUS after 7, 8 and 9.
  * - No other word of the live descriptor is touched; the reserved ones never are.
