@@ -1,10 +1,7 @@
 // The driver code the library is measured against, with the checks a careful driver makes.
-// A file of its own, so that no call is inlined into the timed loop; built twice (see run), S is inl or lib.
+// A file of its own, so that no call is inlined into the timed loop; compiled several ways (see run).
 #include "baseline.h"
 #include <string.h>
-#define NAME2(f, s) f##_##s
-#define NAME1(f, s) NAME2(f, s)
-#define F(f) NAME1(f, S)
 
 static int known_type(uint32_t hxg)
 {
@@ -40,14 +37,14 @@ static uint32_t receive_check(struct ring *r, size_t room, uint32_t *header)
     return 0;
 }
 
-static struct guc_received received(uint32_t header, uint32_t hxg, size_t len)
+static struct received received(uint32_t header, uint32_t hxg, size_t len)
 {
-    if ((header & 0xff00) || len < 2 || !known_type(hxg)) return (struct guc_received){13, 0};
-    return (struct guc_received){0, len};
+    if ((header & 0xff00) || len < 2 || !known_type(hxg)) return (struct received){13, 0};
+    return (struct received){0, len};
 }
 
 // (a) One dword at a time, with a test for the end of the ring at each.
-uint32_t F(wrap_send)(struct ring *r, const uint32_t *msg, size_t len)
+uint32_t wrap_send(struct ring *r, const uint32_t *msg, size_t len)
 {
     uint32_t c = send_check(r, msg, len), *buf = r->buf, at = r->own, n = r->n;
     if (c) return c;
@@ -59,10 +56,10 @@ uint32_t F(wrap_send)(struct ring *r, const uint32_t *msg, size_t len)
     return 0;
 }
 
-struct guc_received F(wrap_receive)(struct ring *r, uint32_t *out, size_t room)
+struct received wrap_receive(struct ring *r, uint32_t *out, size_t room)
 {
     uint32_t header, c = receive_check(r, room, &header), *buf = r->buf, at = r->own, n = r->n;
-    if (c) return (struct guc_received){c, 0};
+    if (c) return (struct received){c, 0};
     size_t len = (header & 0xff) + 1;
     for (size_t i = 0; i < len; i++) {
         out[i] = buf[at];
@@ -74,7 +71,7 @@ struct guc_received F(wrap_receive)(struct ring *r, uint32_t *out, size_t room)
 }
 
 // (b) At most two straight runs by memcpy.
-uint32_t F(runs_send)(struct ring *r, const uint32_t *msg, size_t len)
+uint32_t runs_send(struct ring *r, const uint32_t *msg, size_t len)
 {
     uint32_t c = send_check(r, msg, len);
     if (c) return c;
@@ -89,10 +86,10 @@ uint32_t F(runs_send)(struct ring *r, const uint32_t *msg, size_t len)
     return 0;
 }
 
-struct guc_received F(runs_receive)(struct ring *r, uint32_t *out, size_t room)
+struct received runs_receive(struct ring *r, uint32_t *out, size_t room)
 {
     uint32_t header, c = receive_check(r, room, &header);
-    if (c) return (struct guc_received){c, 0};
+    if (c) return (struct received){c, 0};
     size_t len = (header & 0xff) + 1, first = r->n - r->own, end = r->own + len;
     if (len <= first) {
         memcpy(out, r->buf + r->own, len * 4);
@@ -106,7 +103,7 @@ struct guc_received F(runs_receive)(struct ring *r, uint32_t *out, size_t room)
 }
 
 // (c) The same bytes with no check at all; a message that would pass the end goes to the start instead.
-uint32_t F(plain_send)(struct ring *r, const uint32_t *msg, size_t len)
+uint32_t plain_send(struct ring *r, const uint32_t *msg, size_t len)
 {
     if (r->own + len > r->n) r->own = 0;
     memcpy(r->buf + r->own, msg, len * 4);
@@ -114,12 +111,12 @@ uint32_t F(plain_send)(struct ring *r, const uint32_t *msg, size_t len)
     return 0;
 }
 
-struct guc_received F(plain_receive)(struct ring *r, uint32_t *out, size_t len)
+struct received plain_receive(struct ring *r, uint32_t *out, size_t len)
 {
     if (r->own + len > r->n) r->own = 0;
     memcpy(out, r->buf + r->own, len * 4);
     r->own += len;
-    return (struct guc_received){0, len};
+    return (struct received){0, len};
 }
 
 static uint64_t dword(const uint8_t *p)
@@ -140,9 +137,9 @@ static inline __attribute__((always_inline)) uint32_t judge(const uint8_t *blob,
     return 0;
 }
 
-uint32_t F(css_read)(const uint8_t *blob, size_t len, struct css_parts *p) { return judge(blob, len, p); }
+uint32_t css_read(const uint8_t *blob, size_t len, struct css_parts *p) { return judge(blob, len, p); }
 
-uint32_t F(css_copy)(const uint8_t *blob, size_t len, uint8_t *dst, size_t room, size_t *done)
+uint32_t css_copy(const uint8_t *blob, size_t len, uint8_t *dst, size_t room, size_t *done)
 {
     struct css_parts p;
     uint32_t c = judge(blob, len, &p);
@@ -154,7 +151,7 @@ uint32_t F(css_copy)(const uint8_t *blob, size_t len, uint8_t *dst, size_t room,
 }
 
 // A directory's only entry of that name: one walk over all entries, twelve bytes compared at once.
-uint32_t F(cpd_find)(const uint8_t *blob, size_t len, const uint8_t *name, size_t name_len, size_t *start, size_t *size)
+uint32_t cpd_find(const uint8_t *blob, size_t len, const char *name, size_t name_len, size_t *start, size_t *size)
 {
     uint8_t key[12] = {0};
     if (name_len < 1 || name_len > 12 || memchr(name, 0, name_len)) return 14;

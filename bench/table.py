@@ -1,26 +1,34 @@
-# Joins the times and the instruction counts into one Markdown table: table.py TIMES JOBS COUNTER_PREFIX
+# Joins instruction counts and times into Markdown tables, or checks the counts: table.py table|all|check JOBS COUNTER_PREFIX [TIMES]
 import re
 import sys
 
-times_file, jobs_file, prefix = sys.argv[1:]
-times, counts = {}, {}
-for line in open(times_file):
-    what, n, l, name, ns = line.split()
-    times[what, int(n), int(l), name] = float(ns)
-# Records come in pairs; the second of a pair holds what its job ran inside the measured functions.
-for i, line in enumerate(open(jobs_file)):
-    what, n, l, name, k = line.split()
-    record = open('%s.%d' % (prefix, 2 * i + 2)).read()
-    counts[what, int(n), int(l), name] = int(re.search(r'^totals: (\d+)', record, re.M).group(1)) / int(k)
-
-COLUMNS = [('guc', 'libguc'), ('wrap_inl', '(a)'), ('wrap_lib', "(a) call"), ('runs_inl', '(b)'),
-           ('runs_lib', '(b) call'), ('plain', '(c)')]
+SIZES, LENGTHS = (1024, 16384), (2, 16, 256)
 WORDS = {'send': 'send', 'receive': 'receive', 'turn': 'send, then receive', 'straight': '%s, straight',
          'around': '%s, around the end', 'one_left': '%s, one place left before the end',
          'judge': 'image: judge, find uCode (two calls)',
-         'locate': 'image: find uCode (one call)', 'copy': 'image: copy uCode out',
+         'locate': 'image: find uCode (one call)', 'image': 'image: copy uCode out',
          'few': 'directory: find the last of 16 entries', 'many': 'directory: find the last of 4,096 entries',
          'alike': 'directory: the same, names alike in eleven bytes'}
+# Columns of the table of one archive, and the row of the table of all: who, and beside which plain C.
+COLUMNS = [('guc:two', 'two words'), ('guc:words', '260 words'), ('inl:wrap', '(a)'), ('lib:wrap', '(a) call'),
+           ('inl:runs', '(b)'), ('lib:runs', '(b) call'), ('lib:plain', '(c)')]
+ARCHIVES = [('libguc', 'libguc.a', 'lib'), ('fast', 'libguc-fast.a', 'lib'), ('v3', 'libguc-v3.a', 'lib'),
+            ('kernel-moves', 'libguc-kernel.a', 'moves'), ('kernel-rep', 'libguc-kernel.a by rep', 'rep')]
+PLAIN = {'lib': '(b) call', 'moves': '(b) call, no SSE', 'rep': '(b) call, no SSE, by rep'}
+# At most so many instructions: of the two-word side as a multiple of (b) call's, of a dword stored and a dword copied in steps.
+LIMITS = {'libguc': (2.4, 80, 60), 'fast': (1.6, 80, 60), 'v3': (1.6, 80, 60), 'kernel-moves': (1.4, 80, 60)}
+counts, times = {}, {}
+
+
+def read(jobs_file, prefix, times_file=None):
+    # Records come in pairs; the second of a pair holds what its row's block ran inside the measured functions.
+    for i, line in enumerate(open(jobs_file)):
+        what, n, l, name, k = line.split()
+        record = open('%s.%d' % (prefix, 2 * i + 2)).read()
+        counts[what, int(n), int(l), name] = int(re.search(r'^totals: (\d+)', record, re.M).group(1)) / int(k)
+    for line in open(times_file) if times_file else ():
+        what, n, l, name, ns = line.split()
+        times[what, int(n), int(l), name] = float(ns)
 
 
 def cell(key, base):
@@ -28,38 +36,101 @@ def cell(key, base):
         return '-'
     t = times[key]
     shown = '%.1f' % t if t < 1000 else '%.0f' % t
-    return '%s (%.2f) %.0f' % (shown, t / base, counts[key])
+    # the counter counts a repeated string instruction once for each repeat
+    number = '' if 'rep' in key[3].split(':')[0] else ' %.0f' % counts[key]
+    return '%s (%.2f)%s' % (shown, t / times[base], number)
 
 
-def row(what, n, l, first='guc', label=None):
-    base = times[what, n, l, 'runs_lib']
-    names = [first] + [c for c, _ in COLUMNS[1:]]
-    label = label or WORDS[what]
-    print('| %s | %s | %s | %s |' % (label, n or '-', l or '-', ' | '.join(cell((what, n, l, c), base) for c in names)))
+def line(*cells):
+    print('| %s |' % ' | '.join(str(c) for c in cells))
 
 
-print('Each cell: ns (ratio to "(b) call") instructions, for one message, image or search.')
-print('(a) C, a wrap test per dword; (b) C, at most two memcpy runs; (c) memcpy alone; call: no memcpy opened in place.')
-print('Rows that say where a message lies (straight, around the end) have every message there; in the rows above them the ring')
-print('goes round, and one message in a round passes its end.')
-print('In the image and directory rows the plain C reader stands in the (b) columns.\n')
-print('| what | N | dwords | ' + ' | '.join(c for _, c in COLUMNS) + ' |')
-print('|---|---|---|' + '---|' * len(COLUMNS))
-for what in ('send', 'receive', 'turn'):
-    for n in (1024, 16384):
-        for l in (2, 16, 256):
-            row(what, n, l)
-for what in ('send', 'receive', 'turn'):
-    for n in (1024, 16384):
-        row(what, n, 16, 'steps', WORDS[what] + ' in steps')
-for what in ('send', 'receive'):
-    for place in ('straight', 'around', 'one_left'):
-        for n in (1024, 16384):
-            row(what + '_' + place, n, 256, label=WORDS[place] % what)
-for what in ('judge', 'locate', 'copy', 'few', 'many', 'alike'):
-    row(what, 0, 0)
-print()
-for what in ('send', 'receive'):
-    for n in (1024, 16384):
-        key = (what, n, 16, 'steps')
-        print('%s in steps, N = %d: %.1f ns and %.0f instructions a dword' % (what, n, times[key] / 16, counts[key] / 16))
+def row(what, n, l, label, names):
+    base = (what, n, l, 'lib:runs' if n else 'lib:reader')
+    line(label, n or '-', l or '-', *(cell((what, n, l, name), base) for name in names))
+
+
+def table():
+    names = [name for name, _ in COLUMNS]
+    print('Each cell: ns (ratio to "(b) call") instructions, for one message, image or search. two words, 260 words: the archive, by its side.')
+    print('(a) C, a wrap test per dword; (b) C, at most two memcpy runs; (c) memcpy alone; call: no memcpy opened in place.')
+    print('Rows that say where a message lies (straight, around the end) have every message there; in the rows above them the ring')
+    print('goes round, and one message in a round passes its end.')
+    print('In the image and directory rows the plain C reader stands in the (b) columns.\n')
+    line('what', 'N', 'dwords', *(title for _, title in COLUMNS))
+    print('|---' * (3 + len(COLUMNS)) + '|')
+    for what in ('send', 'receive', 'turn'):
+        for n in SIZES:
+            for l in LENGTHS:
+                row(what, n, l, WORDS[what], names)
+    steps = [('steps', 'in steps', (16,)), ('all', 'by look, all at once, publish', LENGTHS)]
+    for how, words, lengths in steps:
+        for what in ('send', 'receive', 'turn'):
+            for n in SIZES:
+                for l in lengths:
+                    if (what, n, l, 'guc:' + how) in times:
+                        row(what, n, l, '%s %s' % (WORDS[what], words), ['-', 'guc:' + how] + names[2:])
+    for what in ('send', 'receive'):
+        for place in ('straight', 'around', 'one_left'):
+            for n in SIZES:
+                row(what + '_' + place, n, 256, WORDS[place] % what, names)
+    for what in ('judge', 'locate', 'image', 'few', 'many', 'alike'):
+        row(what, 0, 0, WORDS[what], ['-', 'guc:reader', '-', '-', 'inl:reader', 'lib:reader', '-'])
+    print()
+    for what, words in (('store', 'stored'), ('copy', 'copied')):
+        key = what, 1024, 16, 'guc:steps'
+        print('One dword %s in steps: %.1f ns, %.1f instructions.' % (words, times[key], counts[key]))
+
+
+def whole_calls(n):
+    def numbers(name, base):
+        return [cell((what, n, l, name), (what, n, l, base)) for what in ('send', 'receive') for l in LENGTHS]
+    last = None
+    for who, archive, plain in ARCHIVES:
+        if ('send', n, 2, who + ':two') not in times:
+            continue
+        base = plain + ':runs'
+        if plain != last:
+            line(PLAIN[plain], '-', n, *numbers(base, base))
+        last = plain
+        for how, side in (('two', 'two words'), ('words', '260 words'), ('all', '260 words, look, all, publish')):
+            if ('send', n, 2, '%s:%s' % (who, how)) in times:
+                line(archive, side, n, *numbers('%s:%s' % (who, how), base))
+
+
+def all_archives():
+    print('Each cell: ns (ratio to the (b) call above it) instructions, for one message; all archives in one run.')
+    print('(b) call: plain C with at most two memcpy runs, each a call. libguc-kernel.a and its (b) call have no SSE and one memcpy of 8-byte')
+    print('moves; by rep: one memcpy that is `rep movsb`.\n')
+    line('archive', 'side', 'N', *('%s %d' % (what, l) for what in ('send', 'receive') for l in LENGTHS))
+    print('|---' * 9 + '|')
+    for n in SIZES:
+        whole_calls(n)
+    print('\nOne dword in steps, and the last of 16 entries of a directory (ratio to plain C in the same run):\n')
+    line('archive', 'stored', 'copied', 'directory')
+    print('|---' * 4 + '|')
+    for who, archive, plain in ARCHIVES:
+        if ('store', 1024, 16, who + ':steps') in times:
+            steps = ['%.1f %.1f' % (times[key], counts[key]) for key in ((what, 1024, 16, who + ':steps') for what in ('store', 'copy'))]
+            line(archive, *steps, cell(('few', 0, 0, who + ':reader'), ('few', 0, 0, plain + ':reader')))
+
+
+def check():
+    said, above = [], []
+    for who, archive, plain in ARCHIVES:
+        if ('store', 1024, 16, who + ':steps') not in counts:
+            continue
+        ratios = [counts[what, n, l, who + ':two'] / counts[what, n, l, plain + ':runs']
+                  for what in ('send', 'receive') for n in SIZES for l in LENGTHS]
+        found = max(ratios), *(counts[what, 1024, 16, who + ':steps'] for what in ('store', 'copy'))
+        said.append('%s %.2f to %.2f, %.0f and %.0f' % (archive, min(ratios), *found))
+        if any(number > limit for number, limit in zip(found, LIMITS[who])):
+            above.append('%s: at most %.2f, %d and %d' % (archive, *LIMITS[who]))
+    print('bench: instructions, two-word side against (b) call, and a dword stored and copied: %s' % '; '.join(said))
+    if above:
+        sys.exit('bench: too many. ' + '; '.join(above))
+
+
+mode = sys.argv[1]
+read(*sys.argv[2:])
+{'table': table, 'all': all_archives, 'check': check}[mode]()

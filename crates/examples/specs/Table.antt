@@ -1,7 +1,7 @@
 -- The worked examples of document 01, 'Both sides of each line': one table, and the statement that the definitions give each of its rows.
 -- Every line marked P is here, each row under the paper's words, and what a request of document 02 changes. A comment that starts with `Ours` marks rows that no
 -- paper has.
-use Prim.Native.Nat.{ℕ}
+use Prim.Native.Nat.{ℕ, _-_}
 use mathlib.Core.Bool.{Bool, true, false}
 use mathlib.Core.List.{List, [], _∷_, _++_, map}
 use mathlib.Core.Option.{none, some}
@@ -53,6 +53,10 @@ receives c l s d b o = record { code = c; len = l; next = s; desc = d; buf = b; 
 -- 0 with both sides' states, the descriptor and the buffer
 abbrev pub opens : State → State → List ℕ → List ℕ → Opening
 opens s r d b = record { code = 0; sender = s; receiver = r; desc = d; buf = b }
+
+-- a copy with these dwords in front
+abbrev pub padded : List ℕ → List ℕ
+padded front = front ++ replicate (256 - length front) 0
 
 -- free by a descriptor's HEAD and TAIL
 abbrev pub freeBy : List ℕ → ℕ
@@ -208,6 +212,16 @@ table =
     ∷ (Send.whole (idleAt 1024 8) (twoDwords 0x40AB4601) (descriptorWith 8 8 0) buffer is refused 4 (idleAt 1024 8) (descriptorWith 8 8 0) buffer [])
     ∷ (Receive.whole (idleAt 1024 8) (untouched 257) (descriptorWith 8 10 0) (bufferOf (twoDwords 0x40AB4601))
     is receives 13 0 (idleAt 1024 10) (descriptorWith 10 10 0) (bufferOf (twoDwords 0x40AB4601)) (untouched 257))
+    -- Ours: all the stores that are left of a message of 3 dwords, with one stored and with all of them; an idle side is refused
+    ∷ (Send.moveAll (state 1024 8 3 1 (padded (dwords 3))) (descriptorWith 8 8 0) buffer
+    is accepted (state 1024 8 3 3 (padded (dwords 3))) (descriptorWith 8 8 0) (bufferOf (0xBBBBBBBB ∷ 0 ∷ 2 ∷ [])))
+    ∷ (Send.moveAll (state 1024 8 3 3 (padded (dwords 3))) (descriptorWith 8 8 0) buffer is accepted (state 1024 8 3 3 (padded (dwords 3))) (descriptorWith 8 8 0) buffer)
+    ∷ (Send.moveAll (idleAt 1024 8) (descriptorWith 8 8 0) buffer is refused 3 (idleAt 1024 8) (descriptorWith 8 8 0) buffer [])
+    -- Ours: all the copies that are left behind the header, of a message of 3 dwords and of one of a single dword, which has none
+    ∷ (Receive.moveAll (state 1024 8 3 1 (padded (0x12340002 ∷ []))) (descriptorWith 8 11 0) (bufferOf (dwords 3))
+    is accepted (state 1024 8 3 3 (padded (dwords 3))) (descriptorWith 8 11 0) (bufferOf (dwords 3)))
+    ∷ (Receive.moveAll (state 1024 8 1 1 (padded (0x12340000 ∷ []))) (descriptorWith 8 9 0) (bufferWith 0x12340000)
+    is accepted (state 1024 8 1 1 (padded (0x12340000 ∷ []))) (descriptorWith 8 9 0) (bufferWith 0x12340000))
     -- 'P k 64, m 64, e 1, h 161, s 1,161: ..'
     ∷ (map (Css.headerDword (image 4644)) (7 ∷ 8 ∷ 9 ∷ 1 ∷ 6 ∷ []) is 64 ∷ 64 ∷ 1 ∷ 161 ∷ 1161 ∷ [])
     -- Ours: the blobs have as many bytes as the lines below say.

@@ -38,7 +38,9 @@ pub(crate) fn verdict(code: u32) {
 fn rule(code: u32) {
     io::print_decimal(1, code as u64);
     match code {
-        14 => text(b" (a name to seek is 1 to 12 bytes without a zero)"),
+        14 => text(
+            b" (a field too wide, NUM_DWORDS 0, or a name not 1 to 12 bytes without a zero)",
+        ),
         15 => text(b" (the blob or the part is too short for its header)"),
         16 => text(b" (the sizes disagree)"),
         17 => text(b" (a part of the image lies beyond the blob)"),

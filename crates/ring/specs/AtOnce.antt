@@ -47,9 +47,9 @@ lengthAt own b = totalLength (getD b own 0)
 abbrev pub messageAt : ℕ → List ℕ → List ℕ
 messageAt own b = window b (length b) own (lengthAt own b)
 
--- what a receive's look answers by its number: also the header that it judged, where it accepts
+-- what a receive's look answers by its number: also L and the header that it judged, where it accepts
 abbrev pub judgedHeader : ℕ → ℕ → List ℕ → JudgedHeader
-judgedHeader c own b = record { code = c; header = cond (eqb c 0) (getD b own 0) 0 }
+judgedHeader c own b = record { code = c; len = cond (eqb c 0) (lengthAt own b) 0; header = cond (eqb c 0) (getD b own 0) 0 }
 
 -- the number of a whole receive, of which c is the number but for 13
 unfoldable pub receiveNumber : ℕ → ℕ → List ℕ → ℕ

@@ -26,9 +26,11 @@ use message::dword_at;
 use runs::lay_message;
 use runs::past;
 
-// What a look answers: the number, and where that is 0 the header that it judged.
+// What a look answers: the number, and where that is 0 the message's length L and the header that it judged. (The length stands between them so that each is a
+// register of its own: two dwords would go as one number, to be taken apart again.)
 pub struct JudgedHeader {
     pub code: u32,
+    pub len: usize,
     pub header: u32,
 }
 
@@ -43,16 +45,26 @@ fn pending_header(own: usize, desc: &[u32], buf: &[u32]) -> JudgedHeader
     let p = pending(buf.len(), own, status, head, tail);
     let code = p.code;
     if code != 0 {
-        return JudgedHeader { code, header: 0 };
-    }
-    let header = dword_at(buf, own);
-    if p.used < message::total_length(header) {
         return JudgedHeader {
-            code: refusal::UNDERFLOW,
+            code,
+            len: 0,
             header: 0,
         };
     }
-    JudgedHeader { code: 0, header }
+    let header = dword_at(buf, own);
+    let len = message::total_length(header);
+    if p.used < len {
+        return JudgedHeader {
+            code: refusal::UNDERFLOW,
+            len: 0,
+            header: 0,
+        };
+    }
+    JudgedHeader {
+        code: 0,
+        len,
+        header,
+    }
 }
 
 // A receive's look, for a state that fits or not.
@@ -61,7 +73,11 @@ pub fn receive_decision(fits: bool, own: usize, desc: &[u32], buf: &[u32]) -> Ju
 {
     let code = first_needs(desc.len(), buf.len(), fits, 0);
     if code != 0 {
-        return JudgedHeader { code, header: 0 };
+        return JudgedHeader {
+            code,
+            len: 0,
+            header: 0,
+        };
     }
     pending_header(own, desc, buf)
 }
@@ -77,7 +93,11 @@ fn take_decision(fits: bool, own: usize, output: usize, desc: &[u32], buf: &[u32
         need(MESSAGE_MAX <= output, refusal::SHORT_OUTPUT, 0),
     );
     if code != 0 {
-        return JudgedHeader { code, header: 0 };
+        return JudgedHeader {
+            code,
+            len: 0,
+            header: 0,
+        };
     }
     pending_header(own, desc, buf)
 }
@@ -108,7 +128,7 @@ fn take_message(fits: bool, own: usize, desc: &[u32], buf: &[u32], out: &mut [u3
         };
     }
     let header = judged.header;
-    let len = message::total_length(header);
+    let len = judged.len;
     let second = second_dword(buf, own, len);
     if message::well_formed(header, second) {
         let head = lay_message(out, header, second, len, buf, own);

@@ -12,7 +12,7 @@ use Rattle.ring.specs.Ring.{allowed, used, free}
 use Rattle.channel.specs.State.{zeros, allZero, idle, activeSend, activeReceive}
 use Rattle.ring.specs.Numbers.{need, firstNeeds, lookNeeds, sendLookNeeds, receiveLookNeeds, sendDecision, receiveDecision, marked}
 use Rattle.channel.specs.Opening.{openNumber, openBy}
-use Rattle.channel.specs.Steps.{moves}
+use Rattle.channel.specs.Steps.{allMovesBy, moves}
 use Rattle.channel.specs.Send
 use Rattle.channel.specs.Receive
 use Rattle.firmware.specs.Bytes.{dwordAt}
@@ -39,13 +39,14 @@ unfolding
     fit dword typeOf carried bodyFields bodiesFrom bodies ofType bodyOf someBody known wellFormed isMessage originNumber originOf
     decoded unpack Option·elim headerFields hxgFields pack refusing
     firstCount secondCount runOf withRun storedRuns readRuns allowed used free zeros allZero idle activeSend need firstNeeds lookNeeds sendLookNeeds receiveLookNeeds marked openNumber openBy
-    sendDecision Send.lookBy Send.moveNumber Send.moveBy Send.publishNumber Send.publishBy moves Send.afterLook receiveDecision Receive.lookBy Receive.wholeNumber Receive.wholeBy
+    sendDecision Send.lookBy Send.moveNumber Send.moveBy Send.publishNumber Send.publishBy moves allMovesBy Send.goOnNumber Receive.goOnNumber Send.afterLook receiveDecision Receive.lookBy Receive.wholeNumber Receive.wholeBy
     Receive.afterLook Receive.moveNumber Receive.moveBy Receive.publishNumberOf Receive.publishBy activeReceive
     dwordAt Css.sizes Css.agree Css.spanOf Css.number Css.truncated Css.shown Css.place
     Cpd.all Cpd.firstFrom Cpd.countFrom Cpd.isName Cpd.hasMarker Cpd.directoryNumber Cpd.firstEntry Cpd.entriesNamed Cpd.number Cpd.place
     reading manifestNumber manifestReading hucNumber hucReading
 examples =
-    refl & refl & refl & refl & refl & refl & refl
+    refl & refl & refl & refl & refl
+    & refl & refl & refl & refl & refl & refl & refl
     & refl & refl & refl & refl & refl & refl
     & refl & refl
     & refl & refl & refl & refl & refl & refl & refl & refl

@@ -48,7 +48,7 @@ returns-3 c =
     let a = f .before .before .before .before .before .before .before .before .before .before .args in
     let z = sym (ap (λ (x : InUse). x .code) (said (f .before))) ∙ f .if1 .left in
     let u = rw z at (ap (λ (x : InUse). x .used) (said (f .before))) in
-    rw (whole (length (now (a .buf))) (a .own) (status (now (a .desc))) (head (now (a .desc))) (tail (now (a .desc))) (getD (now (a .buf)) (a .own) 0) z (rw (sym u, ← c .before .before .before .dword-at4 .ensures, ← c .before .before .total-length .ensures) (c .if2 .left)), c .before .before .before .dword-at4 .ensures)
+    rw (whole (length (now (a .buf))) (a .own) (status (now (a .desc))) (head (now (a .desc))) (tail (now (a .desc))) (getD (now (a .buf)) (a .own) 0) z (rw (sym u, ← c .before .before .before .dword-at4 .ensures, ← c .before .before .total-length .ensures) (c .if2 .left)), c .before .before .total-length .ensures, c .before .before .before .dword-at4 .ensures)
 
 pub pending-header-spec : {M : Type 1} → statement M
 pending-header-spec = tie.close (tie.spec (λ c κs. search needs) (λ c κs. search needs) (λ c κs. search needs) (λ c κs. search needs) (λ c κs. search needs) (λ c κs. search needs) (λ c κs. search needs) returns (λ c κs. search needs) (λ c κs. search needs) returns-2 returns-3)

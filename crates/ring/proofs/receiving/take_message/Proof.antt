@@ -6,6 +6,7 @@ use native.Mathlib.Omega.{arith}
 use lib.ListN.{length, getD}
 use denote.Ref.{now}
 use borrow.Author.Needs.{needs}
+use Rattle.message.specs.Header.{totalLength}
 use Rattle.message.proofs.Formed.{well-formed}
 use Rattle.ring.specs.Numbers.{takeDecision}
 use Rattle.ring.specs.declared.receiving.JudgedHeader.{JudgedHeader}
@@ -28,26 +29,30 @@ zero c = sym (ap (λ (x : JudgedHeader). x .code) (c .before .take-decision .ens
 header-is : (c : tie.Else1) → let a = c .before .before .before .before .before .args in c .before .take-decision .result .header ≡ getD (now (a .buf)) (a .own) 0
 header-is c = rw (zero c) at (ap (λ (x : JudgedHeader). x .header) (c .before .take-decision .ensures))
 
+len-is : (c : tie.Else1) → let a = c .before .before .before .before .before .args in c .before .take-decision .result .len ≡ totalLength (getD (now (a .buf)) (a .own) 0)
+len-is c = rw (zero c) at (ap (λ (x : JudgedHeader). x .len) (c .before .take-decision .ensures))
+
 has : (c : tie.Else1) → let a = c .before .before .before .before .before .args in Taken (a .fits) (a .own) (length (now (a .out))) (now (a .desc)) (length (now (a .buf))) (getD (now (a .buf)) (a .own) 0)
 has c = taken-has _ _ _ _ _ _ (zero c)
 
 second-dword-requires : tie.Need-second-dword-requires
 second-dword-requires c κs =
-    let h = has (c .before) in
-    (h .below, omega (arith, c .total-length .ensures), omega (arith, h .enters .low), h .enters .high)
+    let h = has c in
+    (h .below, omega (arith, len-is c), omega (arith, h .enters .low), h .enters .high)
 
-long : (c : tie.Then2) → 2 ≤ c .before .before .before .total-length .result
+long : (c : tie.Then2) → 2 ≤ c .before .before .before .before .take-decision .result .len
 long c =
+    let looked = c .before .before .before in
     let w = well-formed _ _ (sym (c .before .well-formed .ensures) ∙ c .if2 .taken) in
-    omega (arith, w .low, c .before .before .before .total-length .ensures)
+    omega (arith, w .low, header-is looked, len-is looked)
 
 returns-2 : tie.Need-returns-2
 returns-2 c =
     let formed = c .before .before .before .before in
-    let looked = formed .before .before .before .before in
+    let looked = formed .before .before .before in
     let a = looked .before .before .before .before .before .args in
     let eh = header-is looked in
-    let el = formed .before .before .before .total-length .ensures in
+    let el = len-is looked ∙ ap totalLength (sym eh) in
     let es = formed .before .before .second-dword .ensures in
     let f = sym (formed .before .well-formed .ensures) ∙ formed .if2 .taken in
     let m = laid-message (now (a .buf)) (length (now (a .buf))) (a .own) _ _ _ (now (a .out)) (has looked .below) (long formed) eh es in
@@ -60,10 +65,10 @@ returns-2 c =
 returns-3 : tie.Need-returns-3
 returns-3 c =
     let formed = c .before in
-    let looked = formed .before .before .before .before in
+    let looked = formed .before .before .before in
     let a = looked .before .before .before .before .before .args in
     let eh = header-is looked in
-    let el = formed .before .before .before .total-length .ensures in
+    let el = len-is looked ∙ ap totalLength (sym eh) in
     let es = formed .before .before .second-dword .ensures in
     let f = sym (formed .before .well-formed .ensures) ∙ formed .if2 .left in
     let h = has looked in
@@ -76,7 +81,6 @@ take-message-spec =
     (tie.spec
     (λ c κs. search needs)
     returns
-    (λ c κs. search needs)
     second-dword-requires
     (λ c κs. search needs)
     (λ c κs. search needs)
