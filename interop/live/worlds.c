@@ -238,8 +238,8 @@ void end_walk(const struct walk *k)
 	/* x at each answer that the header names */
 	static const char *const named[CALLS] = {
 		"x-xxx-xxx-x---", "x-xx-xxxxx-x-x", "x-xxx-xxx-x---", "x-xxx-xxx-x---",
-		"x-xx--------x-", "x-xx--------x-", "x-xx--------x-", "x-xx-xxxxx-x-x",
-		"x-xx--xxxx-x--", "x-xx--------x-", "x-xx--------x-", "x-xx-x------xx",
+		"x-xx--------x-", "x-xx----------", "x-xx--------x-", "x-xx-xxxxx-x-x",
+		"x-xx--xxxx-x--", "x-xx--------x-", "x-xx----------", "x-xx-x------xx",
 	};
 	unsigned call, code;
 
