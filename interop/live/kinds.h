@@ -116,7 +116,7 @@ static inline struct guc_received receive_in_steps(struct channel *c, uint32_t *
 	singly = copies * share / 256;
 	for (k = 0; k < singly && !got.code; k++)
 		got.code = guc_live_receive_copy(c->receiver, c->desc, c->ring, RING);
-	if (!got.code && singly < copies)
+	if (!got.code && share < 256) /* also where none is left, as of a message of one dword */
 		got.code = guc_live_receive_copy_all(c->receiver, c->desc, c->ring, RING);
 	if (!got.code) {
 		got = guc_live_receive_publish(c->receiver, c->desc, c->ring, RING, out,
