@@ -1,10 +1,10 @@
-// A program with no C library at all, linked with libguc.a: it opens a channel, sends and receives one message whole
-// and one in steps with fences, and prints what came back. x86-64 Linux; see docs/INTEGRATION.md.
-#include "guc.h"
-#include "fenced.h"
+// A program with no C library at all, linked with libguc.a: two channels that another processor could read and write meanwhile
+// (guc_live.h), one with two-word sides and whole calls, one in steps. It prints what came back. x86-64 Linux; see docs/INTEGRATION.md.
+#include "guc_live.h"
 
 enum { N = 1024, WRITE = 1, EXIT = 60 };
-static uint32_t desc[16], buf[N], sender[260], receiver[260], out[256];
+static struct guc_descriptor desc;
+static uint32_t ring[N], out[GUC_MESSAGE_DWORDS];
 
 // All that the archive asks of its surroundings. String instructions, so that gcc makes no call to memset out of memset.
 void *memset(void *to, int byte, size_t len)
@@ -53,19 +53,48 @@ static void put_received(const char *what, struct guc_received r)
     put_dwords(out, r.len);
 }
 
+static const uint32_t msg[4] = {0x12340003, 0x00000001, 0xcafe0001, 0xcafe0002};
+
+static void whole(void)
+{
+    static struct guc_whole_sender s;
+    static struct guc_whole_receiver r;
+    put_answer("open ", guc_whole_open(&s, &r, &desc, ring, N));
+    put_answer("; send ", guc_live_whole_send(&s, &desc, ring, N, msg, 4));
+    put_received("; receive ", guc_live_whole_receive(&r, &desc, ring, N, out, GUC_MESSAGE_DWORDS));
+    put_received("; receive ", guc_live_whole_receive(&r, &desc, ring, N, out, GUC_MESSAGE_DWORDS));
+    put_answer("; HEAD ", desc.head);
+    put_answer(", TAIL ", desc.tail);
+    put("\n");
+}
+
+static void steps(void)
+{
+    static struct guc_sender s;
+    static struct guc_receiver r;
+    put_answer("open ", guc_open(&s, &r, &desc, ring, N));
+    put_answer("; look ", guc_live_send_look(&s, &desc, ring, N, msg, 4));
+    put_answer(", store ", guc_live_send_store(&s, &desc, ring, N));
+    put_answer(", store all ", guc_live_send_store_all(&s, &desc, ring, N));
+    put_answer(", publish ", guc_live_send_publish(&s, &desc, ring, N));
+    put_answer("; look ", guc_live_receive_look(&r, &desc, ring, N));
+    put_answer(", copy ", guc_live_receive_copy(&r, &desc, ring, N));
+    put_answer(", copy all ", guc_live_receive_copy_all(&r, &desc, ring, N));
+    put_received(", publish ", guc_live_receive_publish(&r, &desc, ring, N, out, GUC_MESSAGE_DWORDS));
+    put_answer("; HEAD ", desc.head);
+    put_answer(", TAIL ", desc.tail);
+    put("\n");
+    desc.tail = N; // what no honest sender writes
+    put("receive: ");
+    put(guc_strerror(guc_live_receive(&r, &desc, ring, N, out, GUC_MESSAGE_DWORDS).code));
+    put_answer("; STATUS ", desc.status);
+    put("\n");
+}
+
 __attribute__((used)) static void start(void)
 {
-    static const uint32_t whole[4] = {0x12340003, 0x00000001, 0xcafe0001, 0xcafe0002}, stepped[2] = {0x12350001, 0xf0000000};
-    put_answer("open ", guc_open(sender, receiver, desc, 16, buf, N));
-    put_answer("; send ", guc_send(sender, desc, 16, buf, N, whole, 4));
-    put_answer("; send in steps ", send_fenced(sender, desc, buf, N, stepped, 2));
-    put_received("; receive ", guc_receive(receiver, desc, 16, buf, N, out, 256));
-    put_received("; receive in steps ", receive_fenced(receiver, desc, buf, N, out));
-    put_received("; receive ", guc_receive(receiver, desc, 16, buf, N, out, 256));
-    put_received("; receive in steps ", receive_fenced(receiver, desc, buf, N, out));
-    put_answer("; HEAD ", desc[0]);
-    put_answer(" TAIL ", desc[1]);
-    put("\n");
+    whole();
+    steps();
     long wrote = syscall3(WRITE, 1, (long)line, (long)filled);
     syscall3(EXIT, wrote == (long)filled ? 0 : 1, 0, 0);
     __builtin_unreachable();
