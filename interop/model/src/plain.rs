@@ -10,12 +10,23 @@ use std::collections::VecDeque;
 pub enum Operation {
     SendLook(Vec<u32>),
     SendMove,
+    /// The moves that are left, one after another.
+    SendMoveAll,
     SendPublish,
     SendWhole(Vec<u32>),
     ReceiveLook,
     ReceiveMove,
+    ReceiveMoveAll,
     ReceivePublish(Vec<u32>),
     ReceiveWhole(Vec<u32>),
+}
+
+impl Operation {
+    /// Whether it is the sender's.
+    pub fn sends(&self) -> bool {
+        use Operation::*;
+        matches!(self, SendLook(_) | SendMove | SendMoveAll | SendPublish | SendWhole(_))
+    }
 }
 
 /// The answer to an operation, and the output afterwards (empty if none lent).
@@ -149,6 +160,13 @@ impl Plain {
         0
     }
 
+    /// As many moves as are left; a refusal of the first is the answer.
+    pub fn send_move_all(&mut self) -> u32 {
+        let code = self.send_move();
+        while code == 0 && self.send_move() == 0 {}
+        code
+    }
+
     /// A receive's move.
     pub fn receive_move(&mut self) -> u32 {
         let (k, length) = match self.receiving() {
@@ -160,6 +178,13 @@ impl Plain {
         }
         self.receiving = Some(k + 1);
         0
+    }
+
+    /// As a send's.
+    pub fn receive_move_all(&mut self) -> u32 {
+        let code = self.receive_move();
+        while code == 0 && self.receive_move() == 0 {}
+        code
     }
 
     /// "Publish: 3 if not mid-call; [...] 12 if k is below L. Send: the message
@@ -233,10 +258,12 @@ impl Plain {
         let (code, len) = match operation {
             Operation::SendLook(message) => (self.send_look(message), 0),
             Operation::SendMove => (self.send_move(), 0),
+            Operation::SendMoveAll => (self.send_move_all(), 0),
             Operation::SendPublish => (self.send_publish(), 0),
             Operation::SendWhole(message) => (self.send_whole(message), 0),
             Operation::ReceiveLook => (self.receive_look(), 0),
             Operation::ReceiveMove => (self.receive_move(), 0),
+            Operation::ReceiveMoveAll => (self.receive_move_all(), 0),
             Operation::ReceivePublish(lent) => {
                 output.clone_from(lent);
                 self.receive_publish(&mut output)

@@ -1,4 +1,5 @@
-//! The sender's steps: look, one move per dword, publish; and the whole send.
+//! The sender's steps: look, one move per dword, publish; the moves that are left
+//! in one call; and the whole send.
 
 use super::{
     fits_idle, fits_sending, free, judge_lent, judge_ring, past_message, place, Answer, State,
@@ -41,6 +42,20 @@ pub fn send_move(state: &State, desc: &[u32], buf: &mut [u32]) -> Answer {
     }
     buf[place(state.own, state.moved, buf.len())] = state.copy[state.moved as usize];
     Answer::accepted(State { moved: state.moved + 1, ..*state })
+}
+
+/// "The same of every dword that is left: what that many guc_send_store do, one
+/// after another" (the header). The first one's refusal is the answer.
+pub fn send_move_all(state: &State, desc: &[u32], buf: &mut [u32]) -> Answer {
+    let mut answer = send_move(state, desc, buf);
+    if answer.code != 0 {
+        return answer;
+    }
+    while answer.next.moved < answer.next.len {
+        answer = send_move(&answer.next, desc, buf);
+        assert_eq!(answer.code, 0, "a send that moved one dword moves the others");
+    }
+    answer
 }
 
 /// "publish TAIL = (own tail + L) mod N"
