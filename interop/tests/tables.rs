@@ -52,8 +52,10 @@ fn types_are_their_dwords() {
     assert_eq!((WholeSender::COUNT, WholeReceiver::COUNT), (2, 2));
     let mut two = [7, 8];
     assert_eq!((WholeSender::over(&mut two).n, WholeReceiver::over(&mut two).own), (7, 8));
-    let short = || drop(Sender::over(&mut [0; 259]));
-    assert!(std::panic::catch_unwind(short).is_err());
+    let short = std::panic::catch_unwind(|| {
+        Sender::over(&mut [0; 259]);
+    });
+    assert!(short.is_err());
 }
 
 /// Every function that takes a slice is in the list of them, and none twice.
