@@ -1,10 +1,12 @@
 // A program with no C library at all, linked with libguc.a: it opens a channel, sends and receives one message whole
-// and one in steps with fences, and prints what came back. x86-64 Linux; see docs/INTEGRATION.md.
+// and one in steps, and prints what came back. x86-64 Linux; see docs/INTEGRATION.md.
 #include "guc.h"
-#include "fenced.h"
 
 enum { N = 1024, WRITE = 1, EXIT = 60 };
-static uint32_t desc[16], buf[N], sender[260], receiver[260], out[256];
+static struct guc_descriptor desc;
+static struct guc_sender sender;
+static struct guc_receiver receiver;
+static uint32_t buf[N], out[256];
 
 // All that the archive asks of its surroundings. String instructions, so that gcc makes no call to memset out of memset.
 void *memset(void *to, int byte, size_t len)
@@ -53,18 +55,32 @@ static void put_received(const char *what, struct guc_received r)
     put_dwords(out, r.len);
 }
 
+static uint32_t send_in_steps(const uint32_t *msg, size_t len)
+{
+    uint32_t code = guc_send_look(&sender, &desc, buf, N, msg, len);
+    if (!code) code = guc_send_store_all(&sender, &desc, buf, N);
+    return code ? code : guc_send_publish(&sender, &desc, buf, N);
+}
+static struct guc_received receive_in_steps(void)
+{
+    uint32_t code = guc_receive_look(&receiver, &desc, buf, N);
+    if (!code) code = guc_receive_copy_all(&receiver, &desc, buf, N);
+    if (code) return (struct guc_received){code, 0};
+    return guc_receive_publish(&receiver, &desc, buf, N, out, 256);
+}
+
 __attribute__((used)) static void start(void)
 {
     static const uint32_t whole[4] = {0x12340003, 0x00000001, 0xcafe0001, 0xcafe0002}, stepped[2] = {0x12350001, 0xf0000000};
-    put_answer("open ", guc_open(sender, receiver, desc, 16, buf, N));
-    put_answer("; send ", guc_send(sender, desc, 16, buf, N, whole, 4));
-    put_answer("; send in steps ", send_fenced(sender, desc, buf, N, stepped, 2));
-    put_received("; receive ", guc_receive(receiver, desc, 16, buf, N, out, 256));
-    put_received("; receive in steps ", receive_fenced(receiver, desc, buf, N, out));
-    put_received("; receive ", guc_receive(receiver, desc, 16, buf, N, out, 256));
-    put_received("; receive in steps ", receive_fenced(receiver, desc, buf, N, out));
-    put_answer("; HEAD ", desc[0]);
-    put_answer(" TAIL ", desc[1]);
+    put_answer("open ", guc_open(&sender, &receiver, &desc, buf, N));
+    put_answer("; send ", guc_send(&sender, &desc, buf, N, whole, 4));
+    put_answer("; send in steps ", send_in_steps(stepped, 2));
+    put_received("; receive ", guc_receive(&receiver, &desc, buf, N, out, 256));
+    put_received("; receive in steps ", receive_in_steps());
+    put_received("; receive ", guc_receive(&receiver, &desc, buf, N, out, 256));
+    put_received("; receive in steps ", receive_in_steps());
+    put_answer("; HEAD ", desc.head);
+    put_answer(" TAIL ", desc.tail);
     put("\n");
     long wrote = syscall3(WRITE, 1, (long)line, (long)filled);
     syscall3(EXIT, wrote == (long)filled ? 0 : 1, 0, 0);
