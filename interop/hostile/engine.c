@@ -21,6 +21,7 @@
 #define SECONDS 0.6       /* a scene by thread */
 #define TOUCH_SECONDS 0.3 /* a scene by touch */
 #define LONG_SECONDS 900.0
+#define LATE 2.0
 #define RACED 100         /* calls that the thread should have hit, at least */
 #define BY_TOUCH 1        /* calls that a rewrite by touch must have hit */
 #define TOUCHED 60        /* calls of a variant by touch, whatever the time */
@@ -171,7 +172,7 @@ static void place(pthread_t thread, int which)
 }
 
 /* Calls of one variant beside the writer: quota of them, or until the time is
- * up; and some more, for at most two seconds, where no rewrite has hit one. */
+ * up; and some more, for at most LATE seconds, where no rewrite has hit one. */
 static void beside(const struct scene *s, struct tally *t, unsigned v, unsigned long quota,
 		   double seconds)
 {
@@ -182,7 +183,8 @@ static void beside(const struct scene *s, struct tally *t, unsigned v, unsigned 
 		if (k % 64 == 0) {
 			double at = now();
 
-			if ((k >= quota || at >= until) && (t->raced >= hits || at >= until + 2))
+			if ((k >= quota || at >= until) &&
+			    (t->raced >= hits || at >= until + share * LATE))
 				return;
 		}
 		s->reset();
