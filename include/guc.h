@@ -1,44 +1,39 @@
-/*
- * guc.h: the C interface of libguc, for callers in a kernel or a program.
- * One direction of a command transport buffer (CTB), the CTB and HXG words of
- * its messages, and the parts of CSS and HuC CPD firmware images.
+/* guc.h: the C interface of libguc, for callers in a kernel or a program. One direction of a
+ * command transport buffer (CTB), the CTB and HXG words of its messages, and the parts of CSS and
+ * HuC CPD firmware images.
  *
- * ANSWERS ARE POSITIVE. 0 is accepted, and every refusal is a number above 0 of
- * enum guc_number: `if (ret < 0)` never fires, write `if (ret)`. The compiler
- * warns of an answer that nobody looks at.
+ * ANSWERS ARE POSITIVE. 0 is accepted, and every refusal is a number above 0 of enum guc_number:
+ * `if (ret < 0)` never fires, write `if (ret)`. The compiler warns of an answer that nobody looks
+ * at.
  *
- * Every function is total: it answers any contents and any counts, it never
- * aborts, and it keeps nothing between calls; there is no hidden state and no
- * allocation. Where several numbers apply, the lowest is given, but 22 is tested
- * before 21, and a part inside a directory is judged only after the directory
- * itself; 101 is judged before all others, 100 after them.
+ * Every function is total: it answers any contents and any counts, it never aborts, and it keeps
+ * nothing between calls; there is no hidden state and no allocation. Where several numbers apply,
+ * the lowest is given, but 22 is tested before 21, and a part inside a directory is judged only
+ * after the directory itself; 101 is judged before all others, 100 after them.
  *
- * "Changes" below names everything a call may change. What it doesn't name is
- * left as it was, also on a refusal.
+ * "Changes" below names everything a call may change. What it doesn't name is left as it was,
+ * also on a refusal.
  *
  * WHAT THE CALLER SUPPLIES (docs/INTEGRATION.md says why)
  *
  * - x86-64, the System V calling convention, a stack aligned as it asks.
  * - memcpy and memset with their usual meaning. No archive asks for more.
- * - The archive that fits: libguc-kernel.a where SSE, the red zone or indirect
- *   jumps are not allowed; libguc.a, libguc-fast.a or libguc-v3.a (AVX2) elsewhere.
- * - Pointers to what is there: so many dwords or bytes as their count says, dwords
- *   aligned to 4 bytes. With count 0 nothing is touched, and NULL will do.
- * - Slices that overlap neither each other, nor a side, nor the descriptor. Two
- *   that are only read (const) may be the same. Where that cannot be promised
- *   link libguc.a: the other archives are compiled on the strength of it.
+ * - The archive that fits: libguc-kernel.a where SSE, the red zone or indirect jumps are not
+ *   allowed; libguc.a, libguc-fast.a or libguc-v3.a (AVX2) elsewhere.
+ * - Pointers to what is there: so many dwords or bytes as their count says, dwords aligned to 4
+ *   bytes. With count 0 nothing is touched, and NULL will do.
+ * - Slices, sides and descriptor: none overlaps another where one of them is written. Where that
+ *   cannot be promised link libguc.a: the other archives are compiled on the strength of it.
  * - Ordinary memory. The code makes plain loads and stores of any width.
- * - One call at a time on one side. The two sides of a channel may run on
- *   different processors: guc_live.h has the calls for that, with their fences.
+ * - One call at a time on one side. The two sides of a channel may run on different processors:
+ *   guc_live.h has the calls for that, with their fences.
  *
- * The proofs are of memory that nobody else writes while a call runs. A side, a
- * descriptor's words of one's own and what a call writes must have it so. Where
- * somebody writes other lent memory meanwhile, this holds, and is tested on each
- * archive and not proved: each word that a call judges is read once, and what was
- * judged is what is stored, handed out or answered, so nothing outside the slices
- * is touched. The dwords of a message behind its second, and copied bytes, are
- * those that lie there when they are copied.
- */
+ * The proofs are of memory that nobody else writes while a call runs. A side, a descriptor's
+ * words of one's own and what a call writes must have it so. Where somebody writes other lent
+ * memory meanwhile, this holds, and is tested on each archive and not proved: each word that a
+ * call judges is read once, and what was judged is what is stored, handed out or answered, so
+ * nothing outside the slices is touched. The dwords of a message behind its second, and copied
+ * bytes, are those that lie there when they are copied. */
 #ifndef GUC_H
 #define GUC_H
 
@@ -66,44 +61,47 @@ extern "C" {
 #define GUC_KEPT
 #endif
 
-/*
- * The version of this interface, and a function of the archive that has it in its
- * name: an object compiled with a header of another version does not link.
- */
+/* The version of this interface, and a function of the archive that has it in its name: an object
+ * compiled with a header of another version does not link. */
 #define GUC_INTERFACE 2
 uint32_t guc_interface_2(void);
 static uint32_t (*const guc_interface_linked)(void) GUC_KEPT = guc_interface_2;
 
-/*
- * The answers. 0 to 22 are the specification's (22 by a change request, tested
- * after 20 and before 21), 100 and 101 this interface's.
- */
+/* The answers: name, number, and the sentence that guc_strerror has for a log. 0 to 22 are the
+ * specification's (22 by a change request, tested after 20 and before 21), 100 and 101 this
+ * interface's. 1 is not given here, for struct guc_descriptor is 16 dwords. 7 sets STATUS to 1, 8
+ * to 4, 9 to 2; 13 moves HEAD past the message. */
+#define GUC_NUMBERS(X) \
+	X(GUC_OK, 0, "accepted") \
+	X(GUC_BAD_DESCRIPTOR, 1, "the descriptor is not 16 dwords") \
+	X(GUC_BAD_BUFFER, 2, "a ring has a multiple of 1024 dwords, from 1024 to 16384") \
+	X(GUC_BAD_STATE, 3, "the state does not fit: another step is due, or another ring") \
+	X(GUC_BAD_MESSAGE, 4, "the message is malformed") \
+	X(GUC_SHORT_OUTPUT, 5, "the output is shorter than 256 dwords") \
+	X(GUC_BROKEN, 6, "STATUS is not 0") \
+	X(GUC_OVERFLOW, 7, "HEAD or TAIL is outside the ring") \
+	X(GUC_MISMATCH, 8, "TAIL is not the sender's own tail, or HEAD not the receiver's own head") \
+	X(GUC_UNDERFLOW, 9, "the message is longer than what is used") \
+	X(GUC_FULL, 10, "the message is longer than what is free") \
+	X(GUC_EMPTY, 11, "nothing pending") \
+	X(GUC_OUT_OF_TURN, 12, "publish before the last dword is moved, or a dword moved after the last") \
+	X(GUC_MALFORMED, 13, "the message is whole but malformed") \
+	X(GUC_BAD_FIELD, 14, "a field too wide, NUM_DWORDS 0, or a name not 1 to 12 bytes without a zero") \
+	X(GUC_SHORT_BLOB, 15, "the blob or the part is too short for its header") \
+	X(GUC_CSS_SIZES, 16, "the sizes disagree") \
+	X(GUC_CSS_BEYOND, 17, "a part of the image lies beyond the blob") \
+	X(GUC_CPD_HEADER, 18, "the marker is wrong or the header length is below 20") \
+	X(GUC_CPD_ENTRIES, 19, "the entries lie beyond the blob") \
+	X(GUC_NO_ENTRY, 20, "no entry of that name") \
+	X(GUC_CPD_BEYOND, 21, "the entry's part lies beyond the blob") \
+	X(GUC_DUPLICATE_ENTRY, 22, "more than one entry has that name") \
+	X(GUC_NO_ROOM, 100, "the destination is too short") \
+	X(GUC_NO_SUCH, 101, "no such type or component")
+
 enum guc_number {
-	GUC_OK = 0,              /* accepted */
-	GUC_BAD_DESCRIPTOR = 1,  /* not given here: struct guc_descriptor is 16 dwords */
-	GUC_BAD_BUFFER = 2,      /* N is no multiple of 1,024 from 1,024 to 16,384 */
-	GUC_BAD_STATE = 3,       /* the side doesn't fit this call and this N */
-	GUC_BAD_MESSAGE = 4,     /* the message to send or unpack is malformed */
-	GUC_SHORT_OUTPUT = 5,    /* the output has fewer than 256 dwords */
-	GUC_BROKEN = 6,          /* STATUS is not 0 */
-	GUC_OVERFLOW = 7,        /* HEAD or TAIL is at least N; sets STATUS = 1 */
-	GUC_MISMATCH = 8,        /* own tail is not TAIL, or own head not HEAD; sets STATUS = 4 */
-	GUC_UNDERFLOW = 9,       /* the pending message is longer than what is used; sets STATUS = 2 */
-	GUC_FULL = 10,           /* the message is longer than what is free */
-	GUC_EMPTY = 11,          /* nothing pending */
-	GUC_OUT_OF_TURN = 12,    /* publish before L dwords moved, or a move after L */
-	GUC_MALFORMED = 13,      /* the received message is malformed; HEAD has moved past it */
-	GUC_BAD_FIELD = 14,      /* field too wide, NUM_DWORDS 0, or name not 1 to 12 bytes without a zero */
-	GUC_SHORT_BLOB = 15,     /* the blob or part is too short for its header */
-	GUC_CSS_SIZES = 16,      /* the CSS sizes disagree */
-	GUC_CSS_BEYOND = 17,     /* a CSS part lies beyond the blob */
-	GUC_CPD_HEADER = 18,     /* the CPD marker is wrong or the header length below 20 */
-	GUC_CPD_ENTRIES = 19,    /* the CPD entries lie beyond the blob */
-	GUC_NO_ENTRY = 20,       /* no entry of that name */
-	GUC_CPD_BEYOND = 21,     /* the entry's part lies beyond the blob */
-	GUC_DUPLICATE_ENTRY = 22, /* more than one entry has that name */
-	GUC_NO_ROOM = 100,       /* the destination is too short; nothing written */
-	GUC_NO_SUCH = 101        /* no such HXG type or component */
+#define GUC_X(name, number, sentence) name = number,
+	GUC_NUMBERS(GUC_X)
+#undef GUC_X
 };
 
 enum {
@@ -125,8 +123,8 @@ enum guc_status {
 	GUC_STATUS_UNUSED = 8     /* never set here */
 };
 
-/* HXG types; only 4 is unknown. A fast request is laid out as a request and wants
- * no success reply (Linux: GUC_HXG_TYPE_FAST_REQUEST). */
+/* HXG types; only 4 is unknown. A fast request is laid out as a request and wants no success
+ * reply (Linux: GUC_HXG_TYPE_FAST_REQUEST). */
 enum guc_type {
 	GUC_TYPE_REQUEST = 0,      /* first: data 27:16, second: action 15:0 */
 	GUC_TYPE_EVENT = 1,        /* first: data 27:16, second: action 15:0 */
@@ -137,21 +135,13 @@ enum guc_type {
 	GUC_TYPE_SUCCESS = 7       /* first: data 27:0 */
 };
 
-enum guc_origin {
-	GUC_ORIGIN_HOST = 0,
-	GUC_ORIGIN_GUC = 1
-};
+enum guc_origin { GUC_ORIGIN_HOST = 0, GUC_ORIGIN_GUC = 1 };
 
 /* Components of a CSS image, in their order after the 128-byte header. */
-enum guc_component {
-	GUC_PART_UCODE = 0,
-	GUC_PART_RSA = 1,
-	GUC_PART_MODULUS = 2,
-	GUC_PART_EXPONENT = 3
-};
+enum guc_component { GUC_PART_UCODE = 0, GUC_PART_RSA = 1, GUC_PART_MODULUS = 2, GUC_PART_EXPONENT = 3 };
 
-/* The words both sides share. reserved is never judged, and changed by an opening
- * alone, which zeroes it. */
+/* The words both sides share. reserved is never judged, and changed by an opening alone, which
+ * zeroes it. */
 struct guc_descriptor {
 	uint32_t head;   /* next dword to read */
 	uint32_t tail;   /* next dword to write */
@@ -159,20 +149,13 @@ struct guc_descriptor {
 	uint32_t reserved[GUC_DESC_DWORDS - 3];
 };
 
-/*
- * A side that makes steps and whole calls. The words are the library's: open
- * writes them, calls change them, the caller may copy them whole and ask for
+/* A side that makes steps and whole calls. The words are the library's: open writes them, calls
+ * change them, the caller may copy them whole and ask for
  *   own    the own tail (sender) or own head (receiver),
  *   len    L of the message under way, 0 when idle,
- *   moved  dwords stored (sender) or copied (receiver) so far.
- */
-struct guc_sender {
-	uint32_t words[GUC_STATE_WORDS];
-};
-
-struct guc_receiver {
-	uint32_t words[GUC_STATE_WORDS];
-};
+ *   moved  dwords stored (sender) or copied (receiver) so far. */
+struct guc_sender { uint32_t words[GUC_STATE_WORDS]; };
+struct guc_receiver { uint32_t words[GUC_STATE_WORDS]; };
 
 static inline uint32_t guc_sender_own(const struct guc_sender *s) { return s->words[1]; }
 static inline uint32_t guc_sender_len(const struct guc_sender *s) { return s->words[2]; }
@@ -181,30 +164,24 @@ static inline uint32_t guc_receiver_own(const struct guc_receiver *r) { return r
 static inline uint32_t guc_receiver_len(const struct guc_receiver *r) { return r->words[2]; }
 static inline uint32_t guc_receiver_moved(const struct guc_receiver *r) { return r->words[3]; }
 
-/* A side that makes whole calls only. Between them it is always idle, so that
- * these two words are all of it, and its calls are the fastest. */
-struct guc_whole_sender {
-	uint32_t n;   /* the N it was made for */
-	uint32_t own; /* own tail */
-};
+/* A side that makes whole calls only. Between them it is always idle, so that these two words are
+ * all of it, and its calls are the fastest. They are the library's too. (Of no side may two
+ * copies be used: that would be two senders.) */
+struct guc_whole_sender { uint32_t n, own; };   /* the N it was made for, its own tail */
+struct guc_whole_receiver { uint32_t n, own; }; /* the N it was made for, its own head */
 
-struct guc_whole_receiver {
-	uint32_t n;   /* the N it was made for */
-	uint32_t own; /* own head */
-};
-
+/* What calls answer: a number, and what is 0 on a refusal. */
 struct guc_received {
 	uint32_t code;
-	size_t len; /* L, 0 on a refusal */
+	size_t len; /* L */
 };
 
 struct guc_packed {
 	uint32_t code;
-	uint32_t header; /* the CTB header, 0 on a refusal */
-	uint32_t word;   /* HXG dword 0, 0 on a refusal */
+	uint32_t header; /* the CTB header */
+	uint32_t word;   /* HXG dword 0 */
 };
 
-/* On a refusal all but code are 0. */
 struct guc_unpacked {
 	uint32_t code;
 	uint32_t origin;     /* enum guc_origin */
@@ -215,311 +192,201 @@ struct guc_unpacked {
 	uint32_t second;     /* by type; 0 for a type with one field */
 };
 
-struct guc_css {
-	uint32_t code;
-	uint32_t truncated; /* 1: neither modulus nor exponent is there; 0 on a refusal */
-};
+/* truncated is 1 where the image has neither modulus nor exponent. */
+struct guc_css { uint32_t code, truncated; };
 
-/* On a refusal all but code are 0. */
 struct guc_part {
-	uint32_t code;
-	uint32_t truncated; /* 1: the image has neither modulus nor exponent */
-	size_t start;       /* byte in the lent blob */
-	size_t len;         /* bytes */
+	uint32_t code, truncated;
+	size_t start; /* byte in the lent blob */
+	size_t len;   /* bytes */
 };
 
 struct guc_copied {
-	uint32_t code;
-	uint32_t truncated; /* as in guc_part; also beside 100 */
-	size_t len;         /* 0: bytes copied; 100: bytes needed; other refusals: 0 */
+	uint32_t code, truncated; /* truncated also beside 100 */
+	size_t len;               /* 0: bytes copied; 100: bytes needed */
 };
 
-/* On a refusal all but code are 0. */
-struct guc_version {
-	uint32_t code;
-	uint32_t major;
-	uint32_t minor;
-	uint32_t patch;
-};
+struct guc_version { uint32_t code, major, minor, patch; };
+struct guc_manifest { uint32_t code, major, minor, hotfix, build; };
 
-/* On a refusal all but code are 0. */
-struct guc_manifest {
-	uint32_t code;
-	uint32_t major;
-	uint32_t minor;
-	uint32_t hotfix;
-	uint32_t build;
-};
+/* THE CHANNEL
+ *
+ * ring and n are the ring of N = n dwords, a multiple of GUC_RING_UNIT from GUC_RING_MIN to
+ * GUC_RING_MAX. used = (TAIL - HEAD) mod N, free = N - 1 - used; equal offsets mean empty.
+ *
+ * A side stays as it was on every refusal but 13 and that of an opening. A look or a whole call
+ * wants an idle side, the other steps one between its look and its publish; else 3. No function
+ * undoes a look: a call begun in steps is finished in steps, or the channel is opened again.
+ *
+ * 6 to 9 mean a broken channel: after 7, 8 and 9 STATUS is set, and each later look or whole call
+ * that 2 to 5 don't refuse answers 6 until the channel is opened again. */
 
-/*
- * THE CHANNEL
- *
- * ring and n are the ring of N = n dwords, GUC_RING_MIN to GUC_RING_MAX.
- * used = (TAIL - HEAD) mod N, free = N - 1 - used; equal offsets mean empty.
- *
- * A side stays as it was on every refusal but 13. A look or a whole call wants an
- * idle side, the other steps one between its look and its publish; else 3. No
- * function undoes a look: a call begun in steps is finished in steps, or the
- * channel is opened again.
- *
- * 6 to 9 mean a broken channel: after 7, 8 and 9 STATUS is set, and each later
- * look answers 6 until the channel is opened again.
- */
-
-/*
- * Opens a channel with an empty ring.
+/* Opens a channel with an empty ring.
  * Answers 0 or 2.
- * Changes both sides: idle with own offset 0, or made for N = 0 on a refusal, so
- * that they fit no call. The descriptor: all zeros on 0. What the sides held
- * before is not read.
- */
+ * Changes both sides: idle with own offset 0, or all zeros on a refusal, so that they fit no
+ * call. The descriptor: all zeros on 0. What the sides held before is not read. To open a side of
+ * each kind on one channel, make both openings before any other call. */
 GUC_ANSWER uint32_t guc_open(struct guc_sender *s, struct guc_receiver *r,
-			     struct guc_descriptor *desc,
-			     const uint32_t *ring, size_t n);
+    struct guc_descriptor *desc, const uint32_t *ring, size_t n);
 
-/*
- * A send's first step: judges the message, then STATUS, HEAD and TAIL, and
- * takes a copy of the message into the side. msg must have exactly
- * L = 1 + NUM_DWORDS dwords.
+/* A send's first step: judges the message, then STATUS, HEAD and TAIL, and takes a copy of the
+ * message into the side. msg must have exactly L = 1 + NUM_DWORDS dwords.
  * Answers 0, 2, 3, 4, 6, 7, 8 or 10.
- * Changes the side on 0; STATUS on 7 and 8.
- */
+ * Changes the side on 0; STATUS on 7 and 8. */
 GUC_ANSWER uint32_t guc_send_look(struct guc_sender *s, struct guc_descriptor *desc,
-				  const uint32_t *ring, size_t n,
-				  const uint32_t *msg, size_t msg_len);
+    const uint32_t *ring, size_t n, const uint32_t *msg, size_t msg_len);
 
-/*
- * Stores the message's next dword, k, at (own tail + k) mod N.
+/* Stores the message's next dword, k, at (own tail + k) mod N.
  * Answers 0, 2, 3, or 12 when all L are stored.
- * Changes the side and that one dword of the ring on 0.
- */
-GUC_ANSWER uint32_t guc_send_store(struct guc_sender *s,
-				   const struct guc_descriptor *desc,
-				   uint32_t *ring, size_t n);
+ * Changes the side and that one dword of the ring on 0. */
+GUC_ANSWER uint32_t guc_send_store(struct guc_sender *s, const struct guc_descriptor *desc,
+    uint32_t *ring, size_t n);
 
-/*
- * The same of every dword that is left: what that many guc_send_store do, one
- * after another, in at most two straight runs.
- * Answers as guc_send_store.
- * Changes the side and those dwords of the ring on 0.
- */
-GUC_ANSWER uint32_t guc_send_store_all(struct guc_sender *s,
-				       const struct guc_descriptor *desc,
-				       uint32_t *ring, size_t n);
+/* Every dword that is left: what that many guc_send_store do, one after another, in at most two
+ * straight runs; where none is left, nothing.
+ * Answers 0, 2 or 3.
+ * Changes the side and those dwords of the ring on 0. */
+GUC_ANSWER uint32_t guc_send_store_all(struct guc_sender *s, const struct guc_descriptor *desc,
+    uint32_t *ring, size_t n);
 
-/*
- * A send's last step: TAIL = (own tail + L) mod N.
+/* A send's last step: TAIL = (own tail + L) mod N.
  * Answers 0, 2, 3, or 12 when dwords are still to be stored.
- * Changes the side (idle, past the message) and TAIL on 0.
- */
+ * Changes the side (idle, past the message) and TAIL on 0. */
 GUC_ANSWER uint32_t guc_send_publish(struct guc_sender *s, struct guc_descriptor *desc,
-				     const uint32_t *ring, size_t n);
+    const uint32_t *ring, size_t n);
 
-/*
- * A whole send: look, L stores and publish, or the look's refusal.
+/* A whole send: look, L stores and publish, or the look's refusal.
  * Answers as guc_send_look.
- * Changes the side, the L dwords of the ring and TAIL on 0; STATUS on 7, 8.
- */
-GUC_ANSWER uint32_t guc_send(struct guc_sender *s, struct guc_descriptor *desc,
-			     uint32_t *ring, size_t n,
-			     const uint32_t *msg, size_t msg_len);
+ * Changes the side, the L dwords of the ring and TAIL on 0; STATUS on 7, 8. */
+GUC_ANSWER uint32_t guc_send(struct guc_sender *s, struct guc_descriptor *desc, uint32_t *ring,
+    size_t n, const uint32_t *msg, size_t msg_len);
 
-/*
- * A receive's first step: judges STATUS, HEAD and TAIL and, where the ring is
- * not empty, copies the header dword into the side.
+/* A receive's first step: judges STATUS, HEAD and TAIL and, where the ring is not empty, copies
+ * the header dword into the side.
  * Answers 0, 2, 3, 6, 7, 8, 9 or 11.
- * Changes the side on 0; STATUS on 7, 8 and 9.
- */
+ * Changes the side on 0; STATUS on 7, 8 and 9. */
 GUC_ANSWER uint32_t guc_receive_look(struct guc_receiver *r, struct guc_descriptor *desc,
-				     const uint32_t *ring, size_t n);
+    const uint32_t *ring, size_t n);
 
-/*
- * Copies the message's next dword into the side, L - 1 times in all.
+/* Copies the message's next dword into the side, L - 1 times in all.
  * Answers 0, 2, 3, or 12 when all L are copied.
- * Changes the side on 0.
- */
-GUC_ANSWER uint32_t guc_receive_copy(struct guc_receiver *r,
-				     const struct guc_descriptor *desc,
-				     const uint32_t *ring, size_t n);
+ * Changes the side on 0. */
+GUC_ANSWER uint32_t guc_receive_copy(struct guc_receiver *r, const struct guc_descriptor *desc,
+    const uint32_t *ring, size_t n);
 
-/*
- * The same of every dword that is left: what that many guc_receive_copy do, one
- * after another, in at most two straight runs.
- * Answers as guc_receive_copy.
- * Changes the side on 0.
- */
+/* Every dword that is left: what that many guc_receive_copy do, one after another, in at most two
+ * straight runs; where none is left, as after the look at a message of one dword, nothing.
+ * Answers 0, 2 or 3.
+ * Changes the side on 0. */
 GUC_ANSWER uint32_t guc_receive_copy_all(struct guc_receiver *r,
-					 const struct guc_descriptor *desc,
-					 const uint32_t *ring, size_t n);
+    const struct guc_descriptor *desc, const uint32_t *ring, size_t n);
 
-/*
- * A receive's last step: judges the copied message, HEAD = (own head + L) mod N.
- * The ring is not read again. out must have at least GUC_MESSAGE_DWORDS dwords.
+/* A receive's last step: judges the copied message, HEAD = (own head + L) mod N. The ring is not
+ * read again. out must have at least GUC_MESSAGE_DWORDS dwords.
  * Answers 0 and L, or 2, 3, 5, 12 (dwords still to be copied) or 13.
- * Changes, on 0, the side (idle, past the message), HEAD and the first L
- * dwords of out; on 13 the side and HEAD in the same way, and not out.
- */
-GUC_ANSWER struct guc_received
-guc_receive_publish(struct guc_receiver *r, struct guc_descriptor *desc,
-		    const uint32_t *ring, size_t n, uint32_t *out, size_t out_len);
+ * Changes, on 0, the side (idle, past the message), HEAD and the first L dwords of out; on 13 the
+ * side and HEAD in the same way, and not out. */
+GUC_ANSWER struct guc_received guc_receive_publish(struct guc_receiver *r,
+    struct guc_descriptor *desc, const uint32_t *ring, size_t n, uint32_t *out, size_t out_len);
 
-/*
- * A whole receive: look, copies and publish, or the look's refusal.
+/* A whole receive: look, copies and publish, or the look's refusal.
  * Answers 0 and L, or 2, 3, 5, 6, 7, 8, 9, 11 or 13.
- * Changes what guc_receive_publish changes on 0 and 13; STATUS on 7, 8 and 9.
- */
-GUC_ANSWER struct guc_received
-guc_receive(struct guc_receiver *r, struct guc_descriptor *desc,
-	    const uint32_t *ring, size_t n, uint32_t *out, size_t out_len);
+ * Changes what guc_receive_publish changes on 0 and 13; STATUS on 7, 8 and 9. */
+GUC_ANSWER struct guc_received guc_receive(struct guc_receiver *r, struct guc_descriptor *desc,
+    const uint32_t *ring, size_t n, uint32_t *out, size_t out_len);
 
-/*
- * The opening and the whole calls of sides that make no others: guc_open,
- * guc_send and guc_receive, answer for answer and word for word, on two words.
- */
+/* The opening and the whole calls of sides that make no others. They answer and change what
+ * guc_open, guc_send and guc_receive do; 3 means here only that the side was made for another N,
+ * or that its own offset is not below N. */
 GUC_ANSWER uint32_t guc_whole_open(struct guc_whole_sender *s, struct guc_whole_receiver *r,
-				   struct guc_descriptor *desc,
-				   const uint32_t *ring, size_t n);
+    struct guc_descriptor *desc, const uint32_t *ring, size_t n);
 GUC_ANSWER uint32_t guc_whole_send(struct guc_whole_sender *s, struct guc_descriptor *desc,
-				   uint32_t *ring, size_t n,
-				   const uint32_t *msg, size_t msg_len);
-GUC_ANSWER struct guc_received
-guc_whole_receive(struct guc_whole_receiver *r, struct guc_descriptor *desc,
-		  const uint32_t *ring, size_t n, uint32_t *out, size_t out_len);
+    uint32_t *ring, size_t n, const uint32_t *msg, size_t msg_len);
+GUC_ANSWER struct guc_received guc_whole_receive(struct guc_whole_receiver *r,
+    struct guc_descriptor *desc, const uint32_t *ring, size_t n, uint32_t *out, size_t out_len);
 
-/*
- * MESSAGES
+/* MESSAGES
  *
- * CTB header: fence 31:16, format 15:12 (0), reserved 11:8 (0), NUM_DWORDS 7:0.
- * HXG dword 0: origin 31, type 30:28, then by type as enum guc_type says.
- */
+ * CTB header: fence 31:16, format 15:12 (0), reserved 11:8 (0), NUM_DWORDS 7:0. HXG dword 0:
+ * origin 31, type 30:28, then by type as enum guc_type says. */
 
-/*
- * Packs the first two dwords of a message.
- * Answers 0; 101 for a type that is none of enum guc_type; 14 for any field too
- * wide for its place, for num_dwords 0, and for a second other than 0 where the
- * type has one field.
- * Changes nothing.
- */
+/* Packs the first two dwords of a message.
+ * Answers 0; 101 for a type that is none of enum guc_type; 14 for any field too wide for its
+ * place, for num_dwords 0, and for a second other than 0 where the type has one field.
+ * Changes nothing. */
 GUC_ANSWER struct guc_packed guc_pack(uint32_t origin, uint32_t fence, uint32_t num_dwords,
-			   uint32_t type, uint32_t first, uint32_t second);
+    uint32_t type, uint32_t first, uint32_t second);
 
-/*
- * Unpacks the first two dwords of a whole message of len dwords. The others
- * stay where they lie. Packing what it gives gives the same two dwords.
+/* Unpacks the first two dwords of a whole message of len dwords. The others stay where they lie.
+ * Packing what it gives gives the same two dwords.
  * Answers 0, or 4 for a malformed message.
- * Changes nothing.
- */
+ * Changes nothing. */
 GUC_ANSWER struct guc_unpacked guc_unpack(const uint32_t *msg, size_t len);
 
-/*
- * FIRMWARE
+/* FIRMWARE
  *
- * A blob is judged afresh in each call, and once. In none of these is it
- * changed; the copies change dst and only on 0: its first len bytes, never the
- * rest. A start and length hold for the bytes that were judged: where the blob may
- * be written later, use the copies, and judge the copy by what reads it.
- * which is an enum guc_component, anything else is answered by 101.
- * No signature is checked.
- */
+ * A blob is judged afresh in each call, and once. In none of these is it changed; the copies
+ * change dst and only on 0: its first len bytes, never the rest. A start and length hold for the
+ * bytes that were judged: where the blob may be written later, use the copies, and judge the copy
+ * by what reads it. which is an enum guc_component, anything else is answered by 101. No
+ * signature is checked. */
 
-/*
- * Judges a CSS image. Truncated: the blob ends before modulus and exponent do.
- * Answers 0, 15, 16 or 17.
- */
+/* Judges a CSS image. Truncated: the blob ends before modulus and exponent do.
+ * Answers 0, 15, 16 or 17. */
 GUC_ANSWER struct guc_css guc_css_answer(const uint8_t *blob, size_t len);
 
-/*
- * Where a component lies. The modulus and the exponent of a truncated image are
- * answered by 0 with truncated 1, start 0 and len 0.
- * Answers 0, 15, 16, 17 or 101.
- */
+/* Where a component lies. The modulus and the exponent of a truncated image are answered by 0
+ * with truncated 1, start 0 and len 0.
+ * Answers 0, 15, 16, 17 or 101. */
 GUC_ANSWER struct guc_part guc_css_part(const uint8_t *blob, size_t len, uint32_t which);
 
-/*
- * Copies a component to dst, which has room bytes. A component of 0 bytes, and
- * the modulus and exponent of a truncated image, are answered by 0 with len 0.
- * Answers 0, 15, 16, 17, 100 or 101.
- */
+/* Copies a component to dst, which has room bytes. A component of 0 bytes, and the modulus and
+ * exponent of a truncated image, are answered by 0 with len 0.
+ * Answers 0, 15, 16, 17, 100 or 101. */
 GUC_ANSWER struct guc_copied guc_css_copy(const uint8_t *blob, size_t len, uint32_t which,
-			       uint8_t *dst, size_t room);
+    uint8_t *dst, size_t room);
 
-/*
- * The version of a CSS image, truncated or not.
- * Answers 0, 15, 16 or 17.
- */
+/* The version of a CSS image, truncated or not.
+ * Answers 0, 15, 16 or 17. */
 GUC_ANSWER struct guc_version guc_css_version(const uint8_t *blob, size_t len);
 
 /* A literal name of an entry, and its length. */
 #define GUC_NAME(literal) (literal), sizeof(literal) - 1
 
-/*
- * Where the part of a code partition directory lies whose entry has this name.
- * The name has 1 to 12 bytes and no zero among them, nor one behind them that
- * counts: GUC_NAME("huc_fw") is a literal and its length. A name that more than one
- * entry has is refused by 22, wherever they stand, also where the entries are
- * alike or their parts lie beyond the blob.
- * Answers 0, 14, 15, 18, 19, 20, 22 or 21.
- */
-GUC_ANSWER struct guc_part guc_cpd_part(const uint8_t *blob, size_t len,
-			     const char *name, size_t name_len);
+/* Where the part of a code partition directory lies whose entry has this name. The name has 1 to
+ * 12 bytes and no zero among them, nor one behind them that counts: GUC_NAME("huc_fw") is a
+ * literal and its length. A name that more than one entry has is refused by 22, wherever they
+ * stand, also where the entries are alike or their parts lie beyond the blob.
+ * Answers 0, 14, 15, 18, 19, 20, 22 or 21. */
+GUC_ANSWER struct guc_part guc_cpd_part(const uint8_t *blob, size_t len, const char *name,
+    size_t name_len);
 
-/*
- * Copies that part to dst, which has room bytes.
- * Answers 0, 14, 15, 18, 19, 20, 22, 21 or 100.
- */
-GUC_ANSWER struct guc_copied guc_cpd_copy(const uint8_t *blob, size_t len,
-			       const char *name, size_t name_len,
-			       uint8_t *dst, size_t room);
+/* Copies that part to dst, which has room bytes.
+ * Answers 0, 14, 15, 18, 19, 20, 22, 21 or 100. */
+GUC_ANSWER struct guc_copied guc_cpd_copy(const uint8_t *blob, size_t len, const char *name,
+    size_t name_len, uint8_t *dst, size_t room);
 
-/*
- * The firmware version in the directory's part "HUCP.man".
- * Answers 0, 15 (blob below 20 bytes or part below 44), 18, 19, 20, 22 or 21.
- */
+/* The firmware version in the directory's part "HUCP.man".
+ * Answers 0, 15 (blob below 20 bytes or part below 44), 18, 19, 20, 22 or 21. */
 GUC_ANSWER struct guc_manifest guc_manifest_version(const uint8_t *blob, size_t len);
 
-/*
- * The CSS image that is the directory's part "huc_fw", judged as a blob of its
- * own after the directory: as the guc_css functions above, with start counted
- * from the start of the whole blob (0 for the empty part of a refusal or of a
- * truncated image).
- * Answer 0, 15, 16, 17, 18, 19, 20, 22 or 21; guc_huc_part also 101,
- * guc_huc_copy also 100 and 101.
- */
+/* The CSS image that is the directory's part "huc_fw", judged as a blob of its own after the
+ * directory: as the guc_css functions above, with start counted from the start of the whole blob
+ * (0 for the empty part of a refusal or of a truncated image).
+ * Answer 0, 15, 16, 17, 18, 19, 20, 22 or 21; guc_huc_part also 101, guc_huc_copy also 100 and
+ * 101. */
 GUC_ANSWER struct guc_css guc_huc_answer(const uint8_t *blob, size_t len);
 GUC_ANSWER struct guc_part guc_huc_part(const uint8_t *blob, size_t len, uint32_t which);
 GUC_ANSWER struct guc_copied guc_huc_copy(const uint8_t *blob, size_t len, uint32_t which,
-			       uint8_t *dst, size_t room);
+    uint8_t *dst, size_t room);
 GUC_ANSWER struct guc_version guc_huc_version(const uint8_t *blob, size_t len);
 
-/* A sentence for each number, for a log. */
 static inline const char *guc_strerror(uint32_t number)
 {
 	switch (number) {
-	case GUC_OK: return "accepted";
-	case GUC_BAD_DESCRIPTOR: return "the descriptor is not 16 dwords";
-	case GUC_BAD_BUFFER: return "a ring has a multiple of 1024 dwords, from 1024 to 16384";
-	case GUC_BAD_STATE: return "the state does not fit: another step is due, or another ring";
-	case GUC_BAD_MESSAGE: return "the message is malformed";
-	case GUC_SHORT_OUTPUT: return "the output is shorter than 256 dwords";
-	case GUC_BROKEN: return "STATUS is not 0";
-	case GUC_OVERFLOW: return "HEAD or TAIL is outside the ring";
-	case GUC_MISMATCH: return "TAIL is not the sender's own tail, or HEAD not the receiver's own head";
-	case GUC_UNDERFLOW: return "the message is longer than what is used";
-	case GUC_FULL: return "the message is longer than what is free";
-	case GUC_EMPTY: return "nothing pending";
-	case GUC_OUT_OF_TURN: return "publish before the last dword is moved, or a dword moved after the last";
-	case GUC_MALFORMED: return "the message is whole but malformed";
-	case GUC_BAD_FIELD: return "a field too wide, NUM_DWORDS 0, or a name not 1 to 12 bytes without a zero";
-	case GUC_SHORT_BLOB: return "the blob or the part is too short for its header";
-	case GUC_CSS_SIZES: return "the sizes disagree";
-	case GUC_CSS_BEYOND: return "a part of the image lies beyond the blob";
-	case GUC_CPD_HEADER: return "the marker is wrong or the header length is below 20";
-	case GUC_CPD_ENTRIES: return "the entries lie beyond the blob";
-	case GUC_NO_ENTRY: return "no entry of that name";
-	case GUC_CPD_BEYOND: return "the entry's part lies beyond the blob";
-	case GUC_DUPLICATE_ENTRY: return "more than one entry has that name";
-	case GUC_NO_ROOM: return "the destination is too short";
-	case GUC_NO_SUCH: return "no such type or component";
+#define GUC_X(name, value, sentence) case value: return sentence;
+	GUC_NUMBERS(GUC_X)
+#undef GUC_X
 	default: return "no answer has this number";
 	}
 }

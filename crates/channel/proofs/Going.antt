@@ -15,6 +15,11 @@ use Rattle.runs.proofs.Offsets.{past-is}
 use Rattle.channel.specs.Opening.{openNumber}
 use Rattle.channel.specs.State.{State, activeReceive, activeSend, header}
 
+-- a test that cannot hold
+pub refuted : (t : Bool) → (t ≡ true → ⊥) → false ≡ t
+refuted true n = absurd (n refl)
+refuted false n = refl
+
 -- what an active state of either side has that fits
 pub record Active (n : ℕ) (s : State) : Type 0 where
   pub same : s .n ≡ n
@@ -24,10 +29,14 @@ pub record Active (n : ℕ) (s : State) : Type 0 where
   pub within : s .moved ≤ s .len
   pub agrees : s .len ≡ totalLength (header s)
 
+pub send-long : (n : ℕ) (s : State) → activeSend n s ≡ true → 2 ≤ s .len
+unfolding activeSend
+send-long n s e = leb-true 2 (s .len) (search (and-l, and-r))
+
 pub send-active : (n : ℕ) (s : State) → activeSend n s ≡ true → Active n s
 unfolding activeSend
 send-active n s e =
-    let l : 2 ≤ s .len = leb-true 2 (s .len) (search (and-l, and-r)) in
+    let l = send-long n s e in
     record {
       same = eqb-true (s .n) n (search (and-l, and-r));
       own = ltb-true (s .own) n (search (and-l, and-r));
@@ -48,6 +57,10 @@ receive-active n s e =
       within = leb-true (s .moved) (s .len) (search (and-l, and-r));
       agrees = eqb-true (s .len) (totalLength (header s)) (search (and-l, and-r));
     }
+
+pub receive-moved : (n : ℕ) (s : State) → activeReceive n s ≡ true → 1 ≤ s .moved
+unfolding activeReceive
+receive-moved n s e = leb-true 1 (s .moved) (search (and-l, and-r))
 
 -- the descriptor of a channel that opens has 16 dwords
 pub open-sixteen : (d n : ℕ) → openNumber d n ≡ 0 → d ≡ 16

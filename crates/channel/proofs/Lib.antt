@@ -4,3 +4,4 @@ pub mod Fits
 pub mod SendAtOnce
 pub mod ReceiveAtOnce
 pub mod Steps
+pub mod AllMoves

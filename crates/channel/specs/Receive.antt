@@ -9,7 +9,7 @@ use Rattle.ring.specs.Ring.{HEAD}
 use Rattle.channel.specs.State.{State, idleAt, idle, activeReceive, header, second}
 use Rattle.ring.specs.Numbers.{need, firstNeeds, receiveDecision, marked}
 use Rattle.channel.specs.Outcome.{Outcome, refused}
-use Rattle.channel.specs.Steps.{nextPlace, pastMessage, moves}
+use Rattle.channel.specs.Steps.{nextPlace, pastMessage, moves, allMovesBy}
 
 -- 'look (read STATUS, HEAD, TAIL and, if not empty, the header, ..)': 1, 2 and 3, then what the descriptor and the header at the own head say
 abbrev pub lookNumber : State → List ℕ → List ℕ → ℕ
@@ -43,6 +43,13 @@ moveBy c s d b =
 
 abbrev pub move : State → List ℕ → List ℕ → Outcome
 move s d b = moveBy (moveNumber s d b) s d b
+
+-- ours: all the copies that are left, in one call: 1, 2 and 3, which refuse any step that goes on, then the moves
+unfoldable pub goOnNumber : State → List ℕ → List ℕ → ℕ
+goOnNumber s d b = firstNeeds (length d) (length b) (activeReceive (length b) s) 0
+
+abbrev pub moveAll : State → List ℕ → List ℕ → Outcome
+moveAll s d b = allMovesBy (goOnNumber s d b) move s d b
 
 -- 'publish HEAD = (own head + L) mod N': 5 'output shorter than 256', 12 'publish before L dwords moved', 13 'received message whole but
 -- malformed'. 'The copied message is judged at publish and the ring isn't read again for it.'

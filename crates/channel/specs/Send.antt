@@ -9,7 +9,7 @@ use Rattle.ring.specs.Ring.{TAIL}
 use Rattle.channel.specs.State.{State, idleAt, idle, activeSend}
 use Rattle.ring.specs.Numbers.{need, firstNeeds, marked, numberAt}
 use Rattle.channel.specs.Outcome.{Outcome, refused}
-use Rattle.channel.specs.Steps.{nextPlace, pastMessage, moves}
+use Rattle.channel.specs.Steps.{nextPlace, pastMessage, moves, allMovesBy}
 
 -- 'look (judge the message, read STATUS, HEAD, TAIL)': 1 to 4, then what the descriptor says
 abbrev pub lookNumber : State → List ℕ → List ℕ → List ℕ → ℕ
@@ -43,6 +43,13 @@ moveBy c s d b =
 
 abbrev pub move : State → List ℕ → List ℕ → Outcome
 move s d b = moveBy (moveNumber s d b) s d b
+
+-- ours: all the stores that are left, in one call: 1, 2 and 3, which refuse any step that goes on, then the moves
+unfoldable pub goOnNumber : State → List ℕ → List ℕ → ℕ
+goOnNumber s d b = firstNeeds (length d) (length b) (activeSend (length b) s) 0
+
+abbrev pub moveAll : State → List ℕ → List ℕ → Outcome
+moveAll s d b = allMovesBy (goOnNumber s d b) move s d b
 
 -- 'publish TAIL = (own tail + L) mod N': 12 'publish before L dwords moved'
 unfoldable pub publishNumber : State → List ℕ → List ℕ → ℕ

@@ -8,5 +8,6 @@ pub mod Simulation
 pub mod RanWhole
 pub mod Facts
 pub mod Theorem
+pub mod HalfWhole
 pub mod SelfTest
 pub mod Calls

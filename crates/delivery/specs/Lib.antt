@@ -1,4 +1,5 @@
 pub mod Plain
 pub mod Operations
 pub mod Demand
+pub mod HalfWhole
 pub mod Loopback

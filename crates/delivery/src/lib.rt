@@ -2,11 +2,17 @@
 // proved in proofs/Theorem.antt. Here it is the contract of a function, and a self-test follows from it.
 ghost use mathlib.Core.Path.{_≡_};
 ghost use Rattle.delivery.specs.Demand.{Demand3};
+ghost use Rattle.delivery.specs.HalfWhole.{HalfWhole};
 ghost use Rattle.delivery.specs.Loopback.{loop, looped, ComesBack};
 
 // Does nothing: it is here for its contract, so that nothing passes the gate without the theorem.
 pub fn demand_3()
     ensures { λ _. ⌜ Demand3 ⌝ }
+{}
+
+// The same for half-whole calls, which make all the moves that are left: demand 3 has them already.
+pub fn half_whole()
+    ensures { λ _. ⌜ HalfWhole ⌝ }
 {}
 
 // What the loopback answers: the numbers of the three calls, and the length of the message that came back.

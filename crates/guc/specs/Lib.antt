@@ -1,3 +1,4 @@
 pub mod Messages
 pub mod BothWays
 pub mod Parts
+pub mod Interface

@@ -26,19 +26,21 @@ pub fn allowed(n: usize) -> bool
     (n % N_UNIT == 0) & (N_UNIT <= n) & (n <= N_MAX)
 }
 
-// 1, 2 and 3, which every step judges first, with the lengths of the descriptor and the buffer.
+// 1, 2 and 3, which every step judges first, with the lengths of the descriptor and the buffer. Each is a branch, so that what follows it knows that it
+// passed: the compiler then leaves out what it would only test again.
 pub fn first_needs(descriptor: usize, n: usize, fits: bool, rest: u32) -> u32
     ensures { λ r. ⌜ r ≡ firstNeeds descriptor n fits rest ⌝ }
 {
-    need(
-        descriptor == DESCRIPTOR_DWORDS,
-        refusal::BAD_DESCRIPTOR,
-        need(
-            allowed(n),
-            refusal::BAD_BUFFER,
-            need(fits, refusal::BAD_STATE, rest),
-        ),
-    )
+    if descriptor != DESCRIPTOR_DWORDS {
+        return refusal::BAD_DESCRIPTOR;
+    }
+    if !allowed(n) {
+        return refusal::BAD_BUFFER;
+    }
+    if !fits {
+        return refusal::BAD_STATE;
+    }
+    rest
 }
 
 // The dwords in use.

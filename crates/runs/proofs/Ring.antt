@@ -81,6 +81,13 @@ stored-snoc b n i [] x = ap (λ (k : ℕ). set b (k % n) x) (omega arith)
 stored-snoc b n i (y ∷ ys) x =
     stored-snoc (set b (i % n) y) n (suc i) ys x ∙ ap (λ (k : ℕ). set (stored (set b (i % n) y) n (suc i) ys) (k % n) x) (omega arith)
 
+-- what is stored goes by the place's remainder
+pub stored-mod : (b : List ℕ) (n i j : ℕ) (xs : List ℕ) → i % n ≡ j % n → stored b n i xs ≡ stored b n j xs
+unfolding stored
+stored-mod b n i j [] e = refl
+stored-mod b n i j (x ∷ xs) e =
+    rw e (stored-mod (set b (j % n) x) n (suc i) (suc j) xs (suc-mod i n ∙ ap (λ k. suc k % n) e ∙ sym (suc-mod j n)))
+
 pub stored-other : (b : List ℕ) (n i : ℕ) (xs : List ℕ) (j : ℕ) → ((t : ℕ) → i ≤ t → t < i + length xs → j ≢ t % n) → getD (stored b n i xs) j 0 ≡ getD b j 0
 unfolding stored
 stored-other b n i [] j h = refl

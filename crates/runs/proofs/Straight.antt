@@ -1,18 +1,19 @@
 -- Dwords of a buffer: what a loop over them has after a turn, and what goes around the end as what is straight. Assumes nothing.
 use Prim.Native.Nat.{ℕ, zero, suc, _+_, _-_, _%_, _≤_, _<_}
 use mathlib.Core.Path.{_≡_, refl, sym, ap, _∙_}
+use mathlib.Core.Bool.{true, false, _&&_}
 use mathlib.Core.List.{List, [], _∷_, _++_, append-assoc}
-use native.Mathlib.Nat.{sub-zero, zero-sub, suc-sub-suc, zero-mod, mod-self, mod-eq-of-lt, suc-mod}
+use native.Mathlib.Nat.{sub-zero, zero-sub, suc-sub-suc, zero-mod, mod-self, mod-eq-of-lt}
 use native.Mathlib.Numerals.{add-one}
 use native.Mathlib.Omega.{arith}
 use lib.ListN.{length, getD, set, take, drop, replicate, take-append-drop, length-drop, length-take}
 use lib.Seq.{take-all, take-suc, drop-cons, drop-drop, drop-append-le, append-snoc, set-at, length-take-le, sets, sets-eq}
 use borrow.Author.Tests.{le-leb, lt-leb, le-ltb, lt-ltb}
 use borrow.Rule.Slice.PartMut.{midOf, putMid}
-use lib.Dec.{ltb}
-use Rattle.message.proofs.Tests.{cases}
-use Rattle.runs.specs.Buffer.{window, stored, storedAt, laid, laidFrom}
-use Rattle.runs.proofs.Ring.{window-append, window-mod}
+use lib.Dec.{leb, ltb}
+use Rattle.message.proofs.Tests.{and-false}
+use Rattle.runs.specs.Buffer.{window, stored, storedAt, filledFrom, laid, laidFrom}
+use Rattle.runs.proofs.Ring.{window-append, window-mod, stored-mod}
 
 -- a turn of the loop that copies src to the front of dst
 pub copied-more : (dst src : List ℕ) (i : ℕ) → i < length src → i < length dst → set (take i src ++ drop i dst) i (getD src i 0) ≡ take (i + 1) src ++ drop (i + 1) dst
@@ -52,13 +53,6 @@ stored-sets b n i (x ∷ xs) h =
 pub stored-straight : (b : List ℕ) (n i : ℕ) (xs : List ℕ) → i + length xs ≤ n → n ≤ length b → stored b n i xs ≡ take i b ++ (xs ++ drop (i + length xs) b)
 stored-straight b n i xs h l = stored-sets b n i xs h ∙ sets-eq xs b i (omega arith) ∙ append-assoc (take i b) xs _
 
--- what is stored goes by the place's remainder
-stored-mod : (b : List ℕ) (n i j : ℕ) (xs : List ℕ) → i % n ≡ j % n → stored b n i xs ≡ stored b n j xs
-unfolding stored
-stored-mod b n i j [] e = refl
-stored-mod b n i j (x ∷ xs) e =
-    rw e (stored-mod (set b (j % n) x) n (suc i) (suc j) xs (suc-mod i n ∙ ap (λ k. suc k % n) e ∙ sym (suc-mod j n)))
-
 -- dwords in two parts
 stored-append : (b : List ℕ) (n i : ℕ) (xs ys : List ℕ) → stored b n i (xs ++ ys) ≡ stored (stored b n i xs) n (i + length xs) ys
 unfolding stored
@@ -83,19 +77,43 @@ two-and-rest [] h = absurd (omega arith)
 two-and-rest (x ∷ []) h = absurd (omega arith)
 two-and-rest (x ∷ y ∷ r) h = ap (λ (l : List ℕ). x ∷ y ∷ l) (to-end 2 (x ∷ y ∷ r))
 
--- what is stored where it fits, and where it does not
+-- whether k dwords from place at on fit a buffer of n: where they do, and where they do not
+module _ (n at k : ℕ) where
+  fits-there : at < n → k ≤ n → (ltb at n && leb k n) ≡ true
+  fits-there h l = rw (lt-ltb at n h, le-leb k n l)
+
+  fits-outside : n ≤ at → (ltb at n && leb k n) ≡ false
+  fits-outside h = rw (le-ltb at n h)
+
+  fits-long : n < k → (ltb at n && leb k n) ≡ false
+  fits-long h = rw (lt-leb k n h) (and-false (ltb at n))
+
 module _ (b : List ℕ) (at : ℕ) (xs : List ℕ) where
+  -- what is stored ..
   pub stored-there : at < length b → length xs ≤ length b → storedAt b at xs ≡ stored b (length b) at xs
   unfolding storedAt
-  stored-there h l = rw (lt-ltb at (length b) h, le-leb (length xs) (length b) l)
+  stored-there h l = rw (fits-there (length b) at (length xs) h l)
 
   pub stored-outside : length b ≤ at → storedAt b at xs ≡ b
   unfolding storedAt
-  stored-outside h = rw (le-ltb at (length b) h)
+  stored-outside h = rw (fits-outside (length b) at (length xs) h)
 
   pub stored-long : length b < length xs → storedAt b at xs ≡ b
   unfolding storedAt
-  stored-long h = cases (ltb at (length b)) (λ a. rw (a, lt-leb (length xs) (length b) h)) (λ a. rw a)
+  stored-long h = rw (fits-long (length b) at (length xs) h)
+
+  -- .. and what is read in the place of xs
+  pub filled-there : at < length b → length xs ≤ length b → filledFrom b at xs ≡ window b (length b) at (length xs)
+  unfolding filledFrom
+  filled-there h l = rw (fits-there (length b) at (length xs) h l)
+
+  pub filled-outside : length b ≤ at → filledFrom b at xs ≡ xs
+  unfolding filledFrom
+  filled-outside h = rw (fits-outside (length b) at (length xs) h)
+
+  pub filled-long : length b < length xs → filledFrom b at xs ≡ xs
+  unfolding filledFrom
+  filled-long h = rw (fits-long (length b) at (length xs) h)
 
 -- dwords that end within the buffer are read straight
 pub window-straight : (b : List ℕ) (n i k : ℕ) → i + k ≤ n → n ≤ length b → window b n i k ≡ take k (drop i b)

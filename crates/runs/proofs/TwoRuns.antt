@@ -9,10 +9,10 @@ use native.Mathlib.Omega.{arith}
 use lib.ListN.{length, set, take, drop, drop-of-length-le, length-append, length-drop, length-set, length-take}
 use lib.Seq.{take-all, take-at, take-suc-set, drop-drop, drop-set-lt, length-take-le}
 use borrow.Rule.Slice.PartMut.{midOf, putMid}
-use Rattle.runs.specs.Buffer.{window, stored, laid}
+use Rattle.runs.specs.Buffer.{window, stored, storedAt, laid}
 use Rattle.runs.specs.TwoRuns.{firstCount, secondCount, runOf, withRun, storedRuns, readRuns}
 use Rattle.runs.proofs.Ring.{window-mod, stored-length}
-use Rattle.runs.proofs.Straight.{laid-there, to-end, two-then, stored-straight, stored-around, stored-single, window-straight, window-around}
+use Rattle.runs.proofs.Straight.{laid-there, to-end, two-then, stored-straight, stored-around, stored-single, stored-there, window-straight, window-around}
 
 -- the first run has all the dwords, or goes to the end
 module _ (n i k : ℕ) where
@@ -108,7 +108,11 @@ stored-in-runs b i xs l h = elim (decLt (length b - i) (length xs)) [ yes u ↦ 
         ∙ ap (λ (y : List ℕ). withRun y 0 (drop k xs)) (stored-run b (length b) i (take k xs) (omega arith) (omega arith))
         ∙ sym (in-runs b i xs k (first-to-end _ _ _ (omega arith)))
 
--- the same of k dwords that are read
+-- dwords that fit, in their runs, are those that are stored
+pub stored-fit : (b : List ℕ) (i : ℕ) (xs : List ℕ) → i < length b → length xs ≤ length b → storedRuns b i xs ≡ storedAt b i xs
+stored-fit b i xs l h = sym (stored-in-runs b i xs l h) ∙ sym (stored-there b i xs l h)
+
+-- k dwords that are read, of which the first f are the first run
 read-by : (b : List ℕ) (i k f : ℕ) → firstCount (length b) i k ≡ f → readRuns b i k ≡ runOf b i f ++ runOf b 0 (k - f)
 unfolding readRuns secondCount
 read-by b i k f e = rw e
@@ -189,6 +193,14 @@ pub stored-apart :
 stored-apart b r after h w i u e f =
     let s : set b i h ≡ withRun b i (h ∷ []) = stored-single b i h (omega arith) ∙ stored-run b (length b) i (h ∷ []) (omega arith) (omega arith) in
     rw (u, e, s) (sym (judged-apart b i h w r f))
+
+-- what `store_dwords` stores: as many dwords as lie before the end, and those that are left from z on, which is the front
+pub stored-split :
+    (b xs after m : List ℕ) (i : ℕ) {z : ℕ} {y : List ℕ} → let k = length b - i in after ≡ withRun m z y → z ≡ 0 → y ≡ take (length xs - k) (drop k xs)
+    → m ≡ withRun b i (take k xs) → k < length xs → after ≡ storedRuns b i xs
+stored-split b xs after m i u e x v t =
+    let k = length b - i in
+    rw (u, x, to-end k xs, v, e) (sym (in-runs b i xs k (first-to-end _ _ _ (omega arith))))
 
 -- what `load_runs` reads: k dwords to the front of dst, and from z on, which is the buffer's front, as many others as it has places behind them
 pub read-together :

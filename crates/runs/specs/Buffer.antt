@@ -35,3 +35,8 @@ laidFrom b own header second len out =
     cond (ltb own (length b) && leb 2 len && leb len (length b) && leb (length b) 16384 && leb len (length out))
     (header ∷ second ∷ window b (length b) (own + 2) (len - 2) ++ drop len out)
     out
+
+-- ours: places filled with the dwords of a buffer from place at on, around its end, where it has so many and at is a place of it; else they stay
+unfoldable pub filledFrom : List ℕ → ℕ → List ℕ → List ℕ
+filledFrom b at dst =
+    cond (ltb at (length b) && leb (length dst) (length b)) (window b (length b) at (length dst)) dst

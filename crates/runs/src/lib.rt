@@ -10,6 +10,8 @@ pub use offset::past;
 pub use runs::lay;
 pub use runs::lay_copy;
 pub use runs::lay_message;
+pub use runs::load_dwords;
+pub use runs::store_dwords;
 pub use runs::store_message;
 
 // Does nothing: it is here for its contract, so that nothing passes the gate without the statement.

@@ -5,7 +5,7 @@ ghost use mathlib.Core.List.{_∷_, _++_};
 ghost use Prim.Native.Nat.{_+_, _-_, _≤_, _<_};
 ghost use lib.ListN.{length, drop};
 ghost use Rattle.runs.specs.Buffer;
-ghost use Rattle.runs.specs.Buffer.{window, storedAt, laid, laidFrom};
+ghost use Rattle.runs.specs.Buffer.{window, storedAt, filledFrom, laid, laidFrom};
 ghost use Rattle.runs.specs.TwoRuns.{runOf, withRun, storedRuns, readRuns};
 use crate::offset::N_MAX;
 use crate::offset::past;
@@ -121,6 +121,27 @@ pub fn store_message(buf: &mut [u32], at: usize, header: u32, word: u32, rest: &
     tail
 }
 
+// Stores dwords in the ring from place `at` on in their runs, or nothing where they do not fit.
+pub fn store_dwords(buf: &mut [u32], at: usize, src: &[u32])
+    ensures { λ _. ⌜ now (buf .exit) ≡ storedAt (now (buf .entry)) at (now (src .entry)) ⌝ }
+{
+    if buf.len() <= at {
+        return;
+    }
+    if buf.len() < src.len() {
+        return;
+    }
+    let room = buf.len() - at;
+    if src.len() <= room {
+        store_run(buf, at, src);
+        return;
+    }
+    // The second run goes on where the first stopped.
+    let next = room;
+    store_run(buf, at, &src[0..room]);
+    store_run(buf, FRONT, &src[next..]);
+}
+
 // Fills dst with a straight run of dwords of the ring, from place `at` on.
 fn load_run(dst: &mut [u32], buf: &[u32], at: usize)
     requires { ⌜ at + length (now dst) ≤ length (now buf) ⌝ }
@@ -142,6 +163,19 @@ fn load_runs(dst: &mut [u32], buf: &[u32], at: usize)
         load_run(&mut dst[0..room], buf, at);
         load_run(&mut dst[room..], buf, FRONT);
     }
+}
+
+// Fills dst with the dwords of the ring from place `at` on, read in their runs, or leaves it where the ring has not so many or no such place.
+pub fn load_dwords(dst: &mut [u32], buf: &[u32], at: usize)
+    ensures { λ _. ⌜ now (dst .exit) ≡ filledFrom (now (buf .entry)) at (now (dst .entry)) ⌝ }
+{
+    if buf.len() <= at {
+        return;
+    }
+    if buf.len() < dst.len() {
+        return;
+    }
+    load_runs(dst, buf, at);
 }
 
 // The dwords behind the first two of a message that starts at place `own`, read to their places in the output.

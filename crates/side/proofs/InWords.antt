@@ -60,10 +60,10 @@ pub moved-is : (w : List ℕ) → getD w 3 0 ≡ stateOf w .moved
 unfolding stateOf
 moved-is w = refl
 
--- the words after a move of a send
-pub moved-set : (w : List ℕ) → length w ≡ 260 → stateOf (set w 3 (stateOf w .moved + 1)) ≡ Send.afterMove (stateOf w)
+-- the words after moves of a send
+pub moved-set : (x : ℕ) (w : List ℕ) → length w ≡ 260 → stateOf (set w 3 x) ≡ state (stateOf w .n) (stateOf w .own) (stateOf w .len) x (stateOf w .copy)
 unfolding stateOf
-moved-set = four (λ w. stateOf (set w 3 (stateOf w .moved + 1)) ≡ Send.afterMove (stateOf w)) (λ n own len moved copy e. refl)
+moved-set x = four (λ w. stateOf (set w 3 x) ≡ state (stateOf w .n) (stateOf w .own) (stateOf w .len) x (stateOf w .copy)) (λ n own len moved copy e. refl)
 
 -- the words with another N
 pub n-set : (x : ℕ) (w : List ℕ) → length w ≡ 260 → stateOf (set w 0 x) ≡ state x (stateOf w .own) (stateOf w .len) (stateOf w .moved) (stateOf w .copy)
@@ -129,7 +129,7 @@ idle-words n w h e =
     }
 
 -- an idle state's words with another own offset
-pub idle-own : (x : ℕ) (w : List ℕ) → length w ≡ 260 → Idle w → stateOf (set w 1 x) ≡ idleAt (getD w 0 0) x
+pub idle-own : (x : ℕ) (w : List ℕ) → length w ≡ 260 → Idle w → stateOf (set w 1 x) ≡ idleAt (stateOf w .n) x
 unfolding stateOf
 idle-own x w h i = own-set x w h ∙ rw (i .no-len, i .no-moved, i .no-copy)
 
@@ -208,63 +208,3 @@ module _
 -- words that are made for N
 pub made : (x y : ℕ) (w : List ℕ) → length w ≡ 260 → stateOf w ≡ idleAt y 0 → stateOf (set w 0 x) ≡ idleAt x 0
 made x y w h e = n-set x w h ∙ rw e
-
--- a whole send, with the state in words
-module _ (w m d b : List ℕ) (h : length w ≡ 260) (r : WholeEnd) (d′ b′ : List ℕ) (e : wholeEnd r d′ b′ [] ≡ wholeSend (idle (length b) (stateOf w)) (stateOf w .own) m d b) where
-  number : r .code ≡ 0 → numberAt (idle (length b) (stateOf w)) (stateOf w .own) m d (length b) ≡ 0
-  unfolding sendBy
-  number z = sym (ap (λ (x : AtOnce). x .code) e) ∙ z
-
-  has : r .code ≡ 0 → Accepted (idle (length b) (stateOf w)) (stateOf w .own) m d (length b)
-  has z = accepted (idle (length b) (stateOf w)) (stateOf w .own) m d (length b) (number z)
-
-  pub sent-whole : r .code ≡ 0 → inWords (r .code) 0 (set w 1 (r .own)) d′ b′ [] ≡ Send.whole (stateOf w) m d b
-  unfolding stateOf
-  sent-whole z =
-      let i = idle-own (r .own) w h (idle-words (length b) w h (has z .is-fit)) in
-      rw (send-method (stateOf w) m d b (idle (length b) (stateOf w)) r d′ b′ refl e, z)
-      (ap (λ (x : State). record { code = 0; len = 0; next = x; desc = d′; buf = b′; out = [] }) i)
-
-  pub sent-refused : eqb (r .code) 0 ≡ false → inWords (r .code) 0 w d′ b′ [] ≡ Send.whole (stateOf w) m d b
-  sent-refused z = rw (send-method (stateOf w) m d b (idle (length b) (stateOf w)) r d′ b′ refl e, z)
-
-  pub sent-own : r .code ≡ 0 → r .own < 2 ^ 32
-  unfolding sendBy
-  sent-own z =
-      let i = has z .enters in
-      let o : r .own ≡ (stateOf w .own + length m) % length b = rw (number z) at (ap (λ (x : AtOnce). x .own) e) in
-      omega (arith, o, mod-lt (stateOf w .own + length m) {m = length b} (omega arith), i .low, i .high)
-
--- a whole receive, with the state in words
-module _ (w o d b : List ℕ) (h : length w ≡ 260) (r : WholeEnd) (d′ o′ : List ℕ) (e : wholeEnd r d′ b o′ ≡ wholeReceive (idle (length b) (stateOf w)) (stateOf w .own) o d b) where
-  taken : ℕ
-  taken = takeDecision (idle (length b) (stateOf w)) (stateOf w .own) (length o) d (length b) (getD b (stateOf w .own) 0)
-
-  -- 0 and 13 come after a look that accepts
-  took : (eqb (r .code) 0 || eqb (r .code) 13) ≡ true → taken ≡ 0
-  unfolding taken receiveBy receiveNumber
-  took z =
-      cases (eqb taken 0) (λ t. eqb-true taken 0 t)
-      (λ t.
-      let c : r .code ≡ taken = ap (λ (x : AtOnce). x .code) e ∙ rw t in
-      let n = take-not-13 (idle (length b) (stateOf w)) (stateOf w .own) (length o) d (length b) (getD b (stateOf w .own) 0) in
-      true-false (sym z ∙ rw (c, t, n)))
-
-  pub received-whole : (eqb (r .code) 0 || eqb (r .code) 13) ≡ true → inWords (r .code) (r .len) (set w 1 (r .own)) d′ b o′ ≡ Receive.whole (stateOf w) o d b
-  unfolding taken stateOf
-  received-whole z =
-      let t = taken-has _ _ _ _ _ _ (took z) in
-      let i = idle-own (r .own) w h (idle-words (length b) w h (t .is-fit)) in
-      rw (receive-method (stateOf w) o d b (idle (length b) (stateOf w)) r d′ o′ refl e, z)
-      (ap (λ (x : State). record { code = r .code; len = r .len; next = x; desc = d′; buf = b; out = o′ }) i)
-
-  pub received-refused : (eqb (r .code) 0 || eqb (r .code) 13) ≡ false → inWords (r .code) (r .len) w d′ b o′ ≡ Receive.whole (stateOf w) o d b
-  received-refused z = rw (receive-method (stateOf w) o d b (idle (length b) (stateOf w)) r d′ o′ refl e, z)
-
-  pub received-own : (eqb (r .code) 0 || eqb (r .code) 13) ≡ true → r .own < 2 ^ 32
-  unfolding taken receiveBy
-  received-own z =
-      let i = taken-has _ _ _ _ _ _ (took z) .enters in
-      let c : (eqb (receiveNumber taken (stateOf w .own) b) 0 || eqb (receiveNumber taken (stateOf w .own) b) 13) ≡ true = rw (ap (λ (x : AtOnce). x .code) e) at z in
-      let q : r .own ≡ (stateOf w .own + lengthAt (stateOf w .own) b) % length b = rw c at (ap (λ (x : AtOnce). x .own) e) in
-      omega (arith, q, mod-lt (stateOf w .own + lengthAt (stateOf w .own) b) {m = length b} (omega arith), i .low, i .high)

@@ -1,1 +1,4 @@
 pub mod InWords
+pub mod Wholes
+pub mod TwoWords
+pub mod Left

@@ -1,9 +1,11 @@
 // A receive on a state in words: its three steps and the whole receive.
 ghost use mathlib.Core.Path.{_≡_};
 ghost use mathlib.Core.List.{List, [], _++_};
-ghost use Prim.Native.Nat.{ℕ, _+_, _≤_, _<_};
+ghost use Prim.Native.Nat.{ℕ, _+_, _-_, _≤_, _<_};
 ghost use lib.ListN.{length, getD, take, drop};
 ghost use Rattle.runs.specs.Buffer;
+ghost use Rattle.runs.specs.Buffer.{window};
+ghost use Rattle.runs.specs.TwoRuns.{withRun};
 ghost use Rattle.channel.specs.Receive;
 ghost use Rattle.side.specs.Words.{stateOf, inWords};
 use crate::words::COPY;
@@ -79,6 +81,33 @@ pub fn receive_copy(w: &mut [u32; STATE_WORDS], desc: &[u32], buf: &[u32]) -> u3
     }
     w[COPY + moved] = dword_at(buf, past(s.own, moved, n));
     w[MOVED] = (moved + 1) as u32;
+    0
+}
+
+// Copies dwords `moved` to len - 1 of the message to their places in the copy, read in their runs.
+fn copy_left(w: &mut [u32], buf: &[u32], own: usize, moved: usize, len: usize)
+    requires { ⌜ (length (now w) ≡ 260) × (moved ≤ len) × (len ≤ 256) × (own < length (now buf)) × (1024 ≤ length (now buf)) × (length (now buf) ≤ 16384) ⌝ }
+    ensures { λ _. ⌜ now (w .exit) ≡ withRun (now (w .entry)) (4 + moved) (window (now (buf .entry)) (length (now (buf .entry))) (own + moved) (len - moved)) ⌝ }
+{
+    let from = COPY + moved;
+    let to = COPY + len;
+    runs::load_dwords(&mut w[from..to], buf, past(own, moved, buf.len()));
+}
+
+// Copies every dword of the message that is left, at once. Each is read once, and judged at publish.
+pub fn receive_copy_all(w: &mut [u32; STATE_WORDS], desc: &[u32], buf: &[u32]) -> u32
+    ensures { λ r. ⌜ inWords r 0 (now (w .exit)) (now (desc .entry)) (now (buf .entry)) [] ≡ Receive.moveAll (stateOf (now (w .entry))) (now (desc .entry)) (now (buf .entry)) ⌝ }
+{
+    let n = buf.len();
+    let s = counts_of(&w[..]);
+    let moved = s.moved;
+    let len = s.len;
+    let code = receiving_number(s, w[HEADER], desc.len(), n, 0);
+    if code != 0 {
+        return code;
+    }
+    copy_left(&mut w[..], buf, s.own, moved, len);
+    w[MOVED] = len as u32;
     0
 }
 

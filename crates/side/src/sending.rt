@@ -1,10 +1,12 @@
 // A send on a state in words: its three steps and the whole send.
 ghost use mathlib.Core.Path.{_≡_};
 ghost use mathlib.Core.List.{List, []};
-ghost use Prim.Native.Nat.{ℕ};
-ghost use lib.ListN.{length};
+ghost use Prim.Native.Nat.{ℕ, _+_, _-_, _≤_, _<_};
+ghost use lib.ListN.{length, getD, take, drop};
+ghost use Rattle.runs.specs.Buffer.{stored};
 ghost use Rattle.channel.specs.Send;
 ghost use Rattle.side.specs.Words.{stateOf, inWords};
+use crate::words::COPY;
 use crate::words::HEADER;
 use crate::words::MOVED;
 use crate::words::OWN;
@@ -67,6 +69,52 @@ pub fn send_store(w: &mut [u32; STATE_WORDS], desc: &[u32], buf: &mut [u32]) -> 
     let dword = copy_dword(&w[..], header, word, moved);
     ring::put(buf, past(s.own, moved, n), dword);
     w[MOVED] = (moved + 1) as u32;
+    0
+}
+
+// Stores dwords `moved` to len - 1 of the copy in the ring, in their runs. The first two dwords of the copy were judged: those are given by value.
+fn store_left(
+    buf: &mut [u32],
+    w: &[u32],
+    header: u32,
+    word: u32,
+    own: usize,
+    moved: usize,
+    len: usize,
+)
+    requires { ⌜ (length (now w) ≡ 260) × (header ≡ getD (now w) 4 0) × (word ≡ getD (now w) 5 0) × (moved ≤ len) × (2 ≤ len) × (len ≤ 256) × (own < length (now buf)) × (1024 ≤ length (now buf)) × (length (now buf) ≤ 16384) ⌝ }
+    ensures { λ _. ⌜ now (buf .exit) ≡ stored (now (buf .entry)) (length (now (buf .entry))) (own + moved) (take (len - moved) (drop moved (stateOf (now (w .entry)) .copy))) ⌝ }
+{
+    let n = buf.len();
+    let copy = &w[COPY..];
+    if moved == 0 {
+        runs::store_message(buf, own, header, word, &copy[2..len]);
+        return;
+    }
+    if moved == 1 {
+        ring::put(buf, past(own, 1, n), word);
+        runs::store_dwords(buf, past(own, 2, n), &copy[2..len]);
+        return;
+    }
+    runs::store_dwords(buf, past(own, moved, n), &copy[moved..len]);
+}
+
+// Stores every dword of the copy that is left, at once.
+pub fn send_store_all(w: &mut [u32; STATE_WORDS], desc: &[u32], buf: &mut [u32]) -> u32
+    ensures { λ r. ⌜ inWords r 0 (now (w .exit)) (now (desc .entry)) (now (buf .exit)) [] ≡ Send.moveAll (stateOf (now (w .entry))) (now (desc .entry)) (now (buf .entry)) ⌝ }
+{
+    let n = buf.len();
+    let s = counts_of(&w[..]);
+    let moved = s.moved;
+    let len = s.len;
+    let header = w[HEADER];
+    let word = w[SECOND];
+    let code = sending_number(s, header, word, desc.len(), n, true);
+    if code != 0 {
+        return code;
+    }
+    store_left(buf, &w[..], header, word, s.own, moved, len);
+    w[MOVED] = len as u32;
     0
 }
 

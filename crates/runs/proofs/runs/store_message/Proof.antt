@@ -4,8 +4,8 @@ use mathlib.Core.List.{_∷_}
 use native.Mathlib.Omega.{arith}
 use denote.Ref.{now}
 use borrow.Author.Needs.{needs}
-use Rattle.runs.proofs.Straight.{stored-long, stored-outside, stored-there}
-use Rattle.runs.proofs.TwoRuns.{stored-in-runs}
+use Rattle.runs.proofs.Straight.{stored-long, stored-outside}
+use Rattle.runs.proofs.TwoRuns.{stored-fit}
 use Rattle.runs.proofs.runs.store_message.Statement.{statement}
 use Rattle.runs.proofs.runs.store_message.Tie as tie
 
@@ -26,8 +26,7 @@ returns-3 c =
     let a = c .before .before .before .before .before .before .before .before .before .args in
     let p = c .before .before .before .before .before .before .past .ensures in
     let m = a .header ∷ a .word ∷ now (a .rest) in
-    let e = stored-in-runs (now (a .buf)) (a .at) m (omega arith) (omega arith) in
-    (c .before .before .store-runs .ensures ∙ sym e ∙ sym (stored-there (now (a .buf)) (a .at) m (omega arith) (omega arith)), p .0, p .1)
+    (c .before .before .store-runs .ensures ∙ stored-fit (now (a .buf)) (a .at) m (omega arith) (omega arith), p .0, p .1)
 
 pub store-message-spec : {M : Type 1} → statement M
 store-message-spec =

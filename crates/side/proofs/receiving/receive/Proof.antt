@@ -9,7 +9,8 @@ use Rattle.channel.specs.declared.state.Counts.{Counts}
 use Rattle.ring.specs.AtOnce.{wholeEnd, wholeReceive}
 use Rattle.channel.specs.State.{idle}
 use Rattle.side.specs.Words.{stateOf}
-use Rattle.side.proofs.InWords.{received-own, received-whole, received-refused}
+use Rattle.side.proofs.InWords.{idle-own, idle-words}
+use Rattle.side.proofs.Wholes.{received-idle, received-own, received-whole, received-refused}
 use Rattle.side.proofs.receiving.receive.Statement.{statement}
 use Rattle.side.proofs.receiving.receive.Tie as tie
 
@@ -21,20 +22,22 @@ cast-w : tie.Need-cast-w
 cast-w c =
     let q = c .before .before .before .before .before .before .before .before in
     let a = q .before .before .before .before .before .before .before .before .before .before .before .before .args in
-    let l : q .whole-receive .result .own < 2 ^ 32 = received-own (now (a .w)) (now (a .out)) (now (a .desc)) (now (a .buf)) (search needs) (q .whole-receive .result) _ _ (said q) (c .before .if1 .taken) in
+    let l : q .whole-receive .result .own < 2 ^ 32 = received-own (stateOf (now (a .w))) (now (a .out)) (now (a .desc)) (now (a .buf)) (q .whole-receive .result) _ _ (said q) (c .before .if1 .taken) in
     omega (arith, l)
 
 returns : tie.Need-returns
 returns c =
     let q = c .before .before .before .before .before .before .before .before in
     let a = q .before .before .before .before .before .before .before .before .before .before .before .before .args in
-    received-whole (now (a .w)) (now (a .out)) (now (a .desc)) (now (a .buf)) (search needs) (q .whole-receive .result) _ _ (said q) (c .before .if1 .taken)
+    let i = received-idle (stateOf (now (a .w))) (now (a .out)) (now (a .desc)) (now (a .buf)) (q .whole-receive .result) _ _ (said q) (c .before .if1 .taken) in
+    let h : length (now (a .w)) ≡ 260 = search needs in
+    received-whole (stateOf (now (a .w))) (now (a .out)) (now (a .desc)) (now (a .buf)) (q .whole-receive .result) _ _ (said q) (c .before .if1 .taken) _ (idle-own (q .whole-receive .result .own) (now (a .w)) h (idle-words (length (now (a .buf))) (now (a .w)) h i))
 
 returns-2 : tie.Need-returns-2
 returns-2 c =
     let q = c .before .before .before .before .before .before .before in
     let a = q .before .before .before .before .before .before .before .before .before .before .before .before .args in
-    received-refused (now (a .w)) (now (a .out)) (now (a .desc)) (now (a .buf)) (search needs) (q .whole-receive .result) _ _ (said q) (c .if1 .left)
+    received-refused (stateOf (now (a .w))) (now (a .out)) (now (a .desc)) (now (a .buf)) (q .whole-receive .result) _ _ (said q) (c .if1 .left)
 
 pub receive-spec : {M : Type 1} → statement M
 receive-spec =

@@ -10,7 +10,8 @@ use Rattle.channel.specs.declared.state.Counts.{Counts}
 use Rattle.ring.specs.AtOnce.{wholeEnd, wholeSend}
 use Rattle.channel.specs.State.{idle}
 use Rattle.side.specs.Words.{stateOf}
-use Rattle.side.proofs.InWords.{sent-own, sent-whole, sent-refused}
+use Rattle.side.proofs.InWords.{idle-own, idle-words}
+use Rattle.side.proofs.Wholes.{sent-idle, sent-own, sent-whole, sent-refused}
 use mathlib.Core.List.{[]}
 use Rattle.side.proofs.sending.send.Statement.{statement}
 use Rattle.side.proofs.sending.send.Tie as tie
@@ -23,20 +24,22 @@ cast-w : tie.Need-cast-w
 cast-w c =
     let q = c .before .before .before .before .before .before .before in
     let a = q .before .before .before .before .before .before .before .before .before .before .before .before .args in
-    let l : q .whole-send .result .own < 2 ^ 32 = sent-own (now (a .w)) (now (a .msg)) (now (a .desc)) (now (a .buf)) (search needs) (q .whole-send .result) _ _ (said q) (c .before .if1 .taken) in
+    let l : q .whole-send .result .own < 2 ^ 32 = sent-own (stateOf (now (a .w))) (now (a .msg)) (now (a .desc)) (now (a .buf)) (q .whole-send .result) _ _ (said q) (c .before .if1 .taken) in
     omega (arith, l)
 
 returns : tie.Need-returns
 returns c =
     let q = c .before .before .before .before .before .before .before in
     let a = q .before .before .before .before .before .before .before .before .before .before .before .before .args in
-    sent-whole (now (a .w)) (now (a .msg)) (now (a .desc)) (now (a .buf)) (search needs) (q .whole-send .result) _ _ (said q) (c .before .if1 .taken)
+    let i = sent-idle (stateOf (now (a .w))) (now (a .msg)) (now (a .desc)) (now (a .buf)) (q .whole-send .result) _ _ (said q) (c .before .if1 .taken) in
+    let h : length (now (a .w)) ≡ 260 = search needs in
+    sent-whole (stateOf (now (a .w))) (now (a .msg)) (now (a .desc)) (now (a .buf)) (q .whole-send .result) _ _ (said q) (c .before .if1 .taken) _ (idle-own (q .whole-send .result .own) (now (a .w)) h (idle-words (length (now (a .buf))) (now (a .w)) h i))
 
 returns-2 : tie.Need-returns-2
 returns-2 c =
     let q = c .before .before .before .before .before .before in
     let a = q .before .before .before .before .before .before .before .before .before .before .before .before .args in
-    sent-refused (now (a .w)) (now (a .msg)) (now (a .desc)) (now (a .buf)) (search needs) (q .whole-send .result) _ _ (said q) (ne-eqb _ _ (c .if1 .left))
+    sent-refused (stateOf (now (a .w))) (now (a .msg)) (now (a .desc)) (now (a .buf)) (q .whole-send .result) _ _ (said q) (ne-eqb _ _ (c .if1 .left))
 
 pub send-spec : {M : Type 1} → statement M
 send-spec =

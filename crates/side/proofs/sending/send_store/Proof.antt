@@ -1,5 +1,5 @@
 -- `sending::send_store` meets its contract: a number other than 0 leaves all; after 0 the state is active and fits. Assumes nothing.
-use Prim.Native.Nat.{_<_}
+use Prim.Native.Nat.{_+_, _<_}
 use mathlib.Core.Path.{_≡_, refl, sym, ap, _∙_}
 use native.Mathlib.Omega.{arith}
 use lib.ListN.{length}
@@ -52,7 +52,7 @@ returns-2 c =
     let e = c .before .before .before .before .before .before .before .before in
     let w = now (e .before .before .before .before .before .before .before .before .before .before .args .w) in
     let own = ap (λ (x : Counts). x .own) (e .before .before .before .before .before .counts-of .ensures) in
-    simp (← number (e .before), e .if1 .left, c .before .before .put .ensures, c .before .before .before .past .ensures .0, own, c .before .before .before .before .before .copy-dword .ensures, moved-is e, going-place _ _ (fits e), moved-set w (search needs))
+    simp (← number (e .before), e .if1 .left, c .before .before .put .ensures, c .before .before .before .past .ensures .0, own, c .before .before .before .before .before .copy-dword .ensures, moved-is e, going-place _ _ (fits e), moved-set (stateOf w .moved + 1) w (search needs))
 
 pub send-store-spec : {M : Type 1} → statement M
 send-store-spec =

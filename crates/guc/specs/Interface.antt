@@ -1,0 +1,6 @@
+-- The version of the C interface.
+use Prim.Native.Nat.{ℕ}
+
+-- 1 was that of untyped words and counted descriptors; the types of sides and of the descriptor make 2
+abbrev pub interface : ℕ
+interface = 2

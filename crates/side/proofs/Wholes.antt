@@ -1,0 +1,82 @@
+-- What a whole call at once says of the state before it and the state that the caller keeps after it, wherever he keeps it. Assumes nothing.
+use Prim.Native.Nat.{ℕ, _+_, _%_, _<_, _^_}
+use mathlib.Core.Path.{_≡_, refl, sym, ap, _∙_}
+use mathlib.Core.Bool.{true, false, _||_}
+use mathlib.Core.List.{List, []}
+use native.Mathlib.Nat.{mod-lt}
+use native.Mathlib.Omega.{arith}
+use lib.ListN.{length, getD}
+use lib.Dec.{eqb}
+use borrow.Author.Tests.{eqb-true}
+use Rattle.message.proofs.Tests.{cases}
+use Rattle.channel.specs.State.{State, idleAt, idle}
+use Rattle.ring.specs.AtOnce.{AtOnce, wholeEnd, wholeSend, sendBy, wholeReceive, receiveBy, receiveNumber, lengthAt}
+use Rattle.ring.specs.declared.sending.WholeEnd.{WholeEnd}
+use Rattle.ring.specs.Numbers.{numberAt, takeDecision}
+use Rattle.channel.specs.Send
+use Rattle.channel.specs.Receive
+use Rattle.ring.proofs.Chains.{true-false}
+use Rattle.ring.proofs.Taken.{taken-has, take-not-13}
+use Rattle.channel.proofs.ReceiveAtOnce.{receive-method}
+use Rattle.channel.proofs.SendAtOnce.{send-method}
+use Rattle.ring.proofs.Sent.{Accepted, accepted}
+
+-- a whole send
+module _ (s : State) (m d b : List ℕ) (r : WholeEnd) (d′ b′ : List ℕ) (e : wholeEnd r d′ b′ [] ≡ wholeSend (idle (length b) s) (s .own) m d b) where
+  number : r .code ≡ 0 → numberAt (idle (length b) s) (s .own) m d (length b) ≡ 0
+  unfolding sendBy
+  number z = sym (ap (λ (x : AtOnce). x .code) e) ∙ z
+
+  has : r .code ≡ 0 → Accepted (idle (length b) s) (s .own) m d (length b)
+  has z = accepted (idle (length b) s) (s .own) m d (length b) (number z)
+
+  -- it is accepted from an idle state alone
+  pub sent-idle : r .code ≡ 0 → idle (length b) s ≡ true
+  sent-idle z = has z .is-fit
+
+  pub sent-own : r .code ≡ 0 → r .own < 2 ^ 32
+  unfolding sendBy
+  sent-own z =
+      let i = has z .enters in
+      let o : r .own ≡ (s .own + length m) % length b = rw (number z) at (ap (λ (x : AtOnce). x .own) e) in
+      omega (arith, o, mod-lt (s .own + length m) {m = length b} (omega arith), i .low, i .high)
+
+  -- the state after it is idle at the own offset, or the one before it
+  pub sent-whole : r .code ≡ 0 → (x : State) → x ≡ idleAt (s .n) (r .own) → record { code = r .code; len = 0; next = x; desc = d′; buf = b′; out = [] } ≡ Send.whole s m d b
+  sent-whole z x q = rw (send-method s m d b (idle (length b) s) r d′ b′ refl e, z, q)
+
+  pub sent-refused : eqb (r .code) 0 ≡ false → record { code = r .code; len = 0; next = s; desc = d′; buf = b′; out = [] } ≡ Send.whole s m d b
+  sent-refused z = rw (send-method s m d b (idle (length b) s) r d′ b′ refl e, z)
+
+-- a whole receive
+module _ (s : State) (o d b : List ℕ) (r : WholeEnd) (d′ o′ : List ℕ) (e : wholeEnd r d′ b o′ ≡ wholeReceive (idle (length b) s) (s .own) o d b) where
+  taken : ℕ
+  taken = takeDecision (idle (length b) s) (s .own) (length o) d (length b) (getD b (s .own) 0)
+
+  -- 0 and 13 come after a look that accepts
+  took : (eqb (r .code) 0 || eqb (r .code) 13) ≡ true → taken ≡ 0
+  unfolding taken receiveBy receiveNumber
+  took z =
+      cases (eqb taken 0) (λ t. eqb-true taken 0 t)
+      (λ t.
+      let c : r .code ≡ taken = ap (λ (x : AtOnce). x .code) e ∙ rw t in
+      let n = take-not-13 (idle (length b) s) (s .own) (length o) d (length b) (getD b (s .own) 0) in
+      true-false (sym z ∙ rw (c, t, n)))
+
+  pub received-idle : (eqb (r .code) 0 || eqb (r .code) 13) ≡ true → idle (length b) s ≡ true
+  unfolding taken
+  received-idle z = taken-has _ _ _ _ _ _ (took z) .is-fit
+
+  pub received-own : (eqb (r .code) 0 || eqb (r .code) 13) ≡ true → r .own < 2 ^ 32
+  unfolding taken receiveBy
+  received-own z =
+      let i = taken-has _ _ _ _ _ _ (took z) .enters in
+      let c : (eqb (receiveNumber taken (s .own) b) 0 || eqb (receiveNumber taken (s .own) b) 13) ≡ true = rw (ap (λ (x : AtOnce). x .code) e) at z in
+      let q : r .own ≡ (s .own + lengthAt (s .own) b) % length b = rw c at (ap (λ (x : AtOnce). x .own) e) in
+      omega (arith, q, mod-lt (s .own + lengthAt (s .own) b) {m = length b} (omega arith), i .low, i .high)
+
+  pub received-whole : (eqb (r .code) 0 || eqb (r .code) 13) ≡ true → (x : State) → x ≡ idleAt (s .n) (r .own) → record { code = r .code; len = r .len; next = x; desc = d′; buf = b; out = o′ } ≡ Receive.whole s o d b
+  received-whole z x q = rw (receive-method s o d b (idle (length b) s) r d′ o′ refl e, z, q)
+
+  pub received-refused : (eqb (r .code) 0 || eqb (r .code) 13) ≡ false → record { code = r .code; len = r .len; next = s; desc = d′; buf = b; out = o′ } ≡ Receive.whole s o d b
+  received-refused z = rw (receive-method s o d b (idle (length b) s) r d′ o′ refl e, z)

@@ -1,0 +1,56 @@
+-- `whole::whole_send` meets its contract: its two words say whether it fits, and an accepted call moves its own offset. Assumes nothing.
+use Prim.Native.Nat.{_<_, _^_}
+use mathlib.Core.Path.{_≡_}
+use mathlib.Core.List.{[]}
+use native.Mathlib.Omega.{arith}
+use lib.ListN.{length}
+use denote.Ref.{now}
+use borrow.Author.Needs.{needs}
+use borrow.Author.Tests.{ne-eqb}
+use Rattle.ring.specs.AtOnce.{wholeEnd, wholeSend}
+use Rattle.channel.specs.State.{idle}
+use Rattle.side.specs.Words.{wholeOf}
+use Rattle.side.proofs.TwoWords.{own-whole}
+use Rattle.side.proofs.Wholes.{sent-own, sent-whole, sent-refused}
+use Rattle.side.proofs.whole.whole_send.Statement.{statement}
+use Rattle.side.proofs.whole.whole_send.Tie as tie
+
+-- what the whole call at once says of the side in its words
+said : (q : tie.After-whole-send) → let a = q .before .before .before .before .before .before .before .before .before .before .args in wholeEnd (q .whole-send .result) (q .whole-send .last .1 .1 .0) (q .whole-send .last .1 .1 .1 .0) [] ≡ wholeSend (idle (length (now (a .buf))) (wholeOf (now (a .w)))) (wholeOf (now (a .w)) .own) (now (a .msg)) (now (a .desc)) (now (a .buf))
+unfolding wholeOf
+said q = rw (q .before .before .before .fits-whole .ensures, q .before .before .before .before .numbers-of .ensures .0, q .before .before .before .before .numbers-of .ensures .1) at (q .whole-send .ensures)
+
+cast-w : tie.Need-cast-w
+cast-w c =
+    let q = c .before .before .before .before .before .before .before in
+    let a = q .before .before .before .before .before .before .before .before .before .before .args in
+    let l : q .whole-send .result .own < 2 ^ 32 = sent-own (wholeOf (now (a .w))) (now (a .msg)) (now (a .desc)) (now (a .buf)) (q .whole-send .result) _ _ (said q) (c .before .if1 .taken) in
+    omega (arith, l)
+
+returns : tie.Need-returns
+returns c =
+    let q = c .before .before .before .before .before .before .before in
+    let a = q .before .before .before .before .before .before .before .before .before .before .args in
+    sent-whole (wholeOf (now (a .w))) (now (a .msg)) (now (a .desc)) (now (a .buf)) (q .whole-send .result) _ _ (said q) (c .before .if1 .taken) _ (own-whole (q .whole-send .result .own) (now (a .w)) (search needs))
+
+returns-2 : tie.Need-returns-2
+returns-2 c =
+    let q = c .before .before .before .before .before .before in
+    let a = q .before .before .before .before .before .before .before .before .before .before .args in
+    sent-refused (wholeOf (now (a .w))) (now (a .msg)) (now (a .desc)) (now (a .buf)) (q .whole-send .result) _ _ (said q) (ne-eqb _ _ (c .if1 .left))
+
+pub whole-send-spec : {M : Type 1} → statement M
+whole-send-spec =
+    tie.close
+    (tie.spec
+    (λ c κs. search needs)
+    (λ c κs. search needs)
+    (λ c κs. search needs)
+    cast-w
+    (λ c. search needs)
+    (λ c. search needs)
+    (λ c. search needs)
+    returns
+    (λ c. search needs)
+    (λ c. search needs)
+    returns-2)
