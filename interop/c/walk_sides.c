@@ -110,6 +110,21 @@ static void whole_refused(void)
 	       (unsigned)wh.receiver.own);
 }
 
+/* The look has copied all of a message of one dword: nothing is left to copy. */
+static void lone_header(struct guc_receiver *r)
+{
+	struct guc_received got;
+
+	wh.ring[100] = 0x43210000u;
+	wh.desc.tail = 103;
+	CHECK(guc_receive_look(r, &wh.desc, wh.ring, N) == GUC_OK && guc_receiver_len(r) == 1);
+	CHECK(guc_receive_copy_all(r, &wh.desc, wh.ring, N) == GUC_OK);
+	CHECK(guc_receive_copy(r, &wh.desc, wh.ring, N) == GUC_OUT_OF_TURN);
+	got = guc_receive_publish(r, &wh.desc, wh.ring, N, wh.out, GUC_MESSAGE_DWORDS);
+	CHECK(got.code == GUC_MALFORMED && got.len == 0 && wh.desc.head == 101);
+	printf("a lone header: nothing left to copy, then 13\n");
+}
+
 /* Both halves of a message in as few calls as a barrier between them allows. */
 static void all_at_once(void)
 {
@@ -127,7 +142,8 @@ static void all_at_once(void)
 	CHECK(guc_sender_moved(&s) == 1 && wh.desc.tail == 0);
 	CHECK(guc_send_store_all(&s, &wh.desc, wh.ring, N) == GUC_OK);
 	CHECK(guc_sender_moved(&s) == 100 && memcmp(wh.ring, msg, sizeof(msg)) == 0);
-	CHECK(guc_send_store_all(&s, &wh.desc, wh.ring, N) == GUC_OUT_OF_TURN);
+	CHECK(guc_send_store_all(&s, &wh.desc, wh.ring, N) == GUC_OK); /* none is left */
+	CHECK(guc_sender_moved(&s) == 100 && memcmp(wh.ring, msg, sizeof(msg)) == 0);
 	/* the write barrier goes here */
 	CHECK(guc_send_publish(&s, &wh.desc, wh.ring, N) == GUC_OK && wh.desc.tail == 100);
 	CHECK(guc_receive_copy_all(&r, &wh.desc, wh.ring, N) == GUC_BAD_STATE);
@@ -135,11 +151,13 @@ static void all_at_once(void)
 	CHECK(guc_receive_copy_all(&r, &wh.desc, NULL, 0) == GUC_BAD_BUFFER);
 	CHECK(guc_receive_copy_all(&r, &wh.desc, wh.ring, N) == GUC_OK);
 	CHECK(guc_receiver_moved(&r) == 100 && wh.desc.head == 0);
-	CHECK(guc_receive_copy_all(&r, &wh.desc, wh.ring, N) == GUC_OUT_OF_TURN);
+	CHECK(guc_receive_copy_all(&r, &wh.desc, wh.ring, N) == GUC_OK); /* none is left */
+	CHECK(guc_receiver_moved(&r) == 100);
 	got = guc_receive_publish(&r, &wh.desc, wh.ring, N, wh.out, GUC_MESSAGE_DWORDS);
 	CHECK(got.code == GUC_OK && got.len == 100 && memcmp(wh.out, msg, sizeof(msg)) == 0);
 	CHECK(wh.desc.head == 100 && guc_receiver_own(&r) == 100);
 	printf("all at once: stored and copied %u dwords\n", (unsigned)got.len);
+	lone_header(&r);
 }
 
 /* Each number has a sentence, and no two the same. */

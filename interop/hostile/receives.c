@@ -96,13 +96,12 @@ static void steps(void)
 	publish();
 }
 
-/* All copies at once, where the look has left any. */
+/* All copies at once, if only of none. */
 static void halves(void)
 {
 	if (!look())
 		return;
-	if (guc_receiver_len(&ch.now.receiver) > 1)
-		ch.stuck = guc_receive_copy_all(&ch.now.receiver, ch.desc, ch.ring, N);
+	ch.stuck = guc_receive_copy_all(&ch.now.receiver, ch.desc, ch.ring, N);
 	publish();
 }
 

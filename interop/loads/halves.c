@@ -1,6 +1,6 @@
 /*
  * All moves that are left in one call: of messages at the places that tell how
- * they copy, with none, some or all but one moved before, and refused.
+ * they copy, with none, some or all moved before, and refused.
  */
 #include "channel.h"
 
@@ -81,8 +81,8 @@ void half_calls(void)
 	ring_size = N;
 	store_all(GUC_BAD_BUFFER, 100, 5, 1);
 	store_all(GUC_BAD_STATE, 100, 5, 1);
-	store_all(GUC_OUT_OF_TURN, 100, 5, 5);
+	store_all(GUC_OK, 100, 5, 5); /* none is left */
 	copy_all(GUC_BAD_BUFFER, 100, 5, 1);
 	copy_all(GUC_BAD_STATE, 100, 5, 1);
-	copy_all(GUC_OUT_OF_TURN, 100, 5, 5);
+	copy_all(GUC_OK, 100, 5, 5);
 }

@@ -122,7 +122,7 @@ const WITH_STATE: &[Fun] = &[
 const LOOKS: &[Fun] = &[SendLook, Send, WholeSend, ReceiveLook, Receive, WholeReceive];
 const SENDS: &[Fun] = &[SendLook, Send, WholeSend];
 const RECEIVES: &[Fun] = &[ReceiveLook, Receive, WholeReceive];
-const MOVES: &[Fun] = &[SendStore, SendStoreAll, ReceiveCopy, ReceiveCopyAll];
+const MOVES: &[Fun] = &[SendStore, ReceiveCopy];
 const PUBLISHES: &[Fun] = &[SendPublish, ReceivePublish];
 const GOING_ON: &[Fun] =
     &[SendStore, SendStoreAll, SendPublish, ReceiveCopy, ReceiveCopyAll, ReceivePublish];

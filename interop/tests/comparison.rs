@@ -21,14 +21,15 @@ const WITH_TYPES: [(Fun, Set); 8] = [
     (Fun::WholeReceive, Set::WholeReceive),
 ];
 
-/// The calls that move many dwords, with the sets of how those lie against the end.
+/// The calls that move many dwords, with sets of how many there are or how they lie
+/// against the end.
 const WITH_LAYS: [(Fun, Set); 6] = [
     (Fun::Send, Set::SendPlace),
     (Fun::Receive, Set::ReceivePlace),
     (Fun::WholeSend, Set::WholeSendPlace),
     (Fun::WholeReceive, Set::WholeReceivePlace),
-    (Fun::SendStoreAll, Set::StorePlace),
-    (Fun::ReceiveCopyAll, Set::CopyPlace),
+    (Fun::SendStoreAll, Set::StoreLeft),
+    (Fun::ReceiveCopyAll, Set::CopyLeft),
 ];
 
 #[test]

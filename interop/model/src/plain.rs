@@ -160,11 +160,13 @@ impl Plain {
         0
     }
 
-    /// As many moves as are left; a refusal of the first is the answer.
+    /// As many moves as are left, which may be none; 3 if not mid-call.
     pub fn send_move_all(&mut self) -> u32 {
-        let code = self.send_move();
-        while code == 0 && self.send_move() == 0 {}
-        code
+        if self.sending.is_none() {
+            return 3;
+        }
+        while self.send_move() == 0 {}
+        0
     }
 
     /// A receive's move.
@@ -182,9 +184,11 @@ impl Plain {
 
     /// As a send's.
     pub fn receive_move_all(&mut self) -> u32 {
-        let code = self.receive_move();
-        while code == 0 && self.receive_move() == 0 {}
-        code
+        if self.receiving.is_none() {
+            return 3;
+        }
+        while self.receive_move() == 0 {}
+        0
     }
 
     /// "Publish: 3 if not mid-call; [...] 12 if k is below L. Send: the message

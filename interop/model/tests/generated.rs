@@ -15,8 +15,8 @@ use model::{cpd, css};
 fn numbers(op: Op) -> &'static [usize] {
     match op {
         Op::SendLook | Op::SendWhole | Op::SendTwo => &[0, 2, 3, 4, 6, 7, 8, 10],
-        Op::SendMove | Op::SendMoveAll | Op::SendPublish => &[0, 2, 3, 12],
-        Op::ReceiveMove | Op::ReceiveMoveAll => &[0, 2, 3, 12],
+        Op::SendMove | Op::SendPublish | Op::ReceiveMove => &[0, 2, 3, 12],
+        Op::SendMoveAll | Op::ReceiveMoveAll => &[0, 2, 3],
         Op::ReceiveLook => &[0, 2, 3, 6, 7, 8, 9, 11],
         Op::ReceivePublish => &[0, 2, 3, 5, 12, 13],
         Op::ReceiveWhole | Op::ReceiveTwo => &[0, 2, 3, 5, 6, 7, 8, 9, 11, 13],

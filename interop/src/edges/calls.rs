@@ -35,7 +35,6 @@ pub fn of_call(case: &Case) -> Stands {
         }
         Op::SendMove | Op::ReceiveMove => of_progress(&mut stands, Edge::Move, &case.state),
         Op::SendMoveAll | Op::ReceiveMoveAll => {
-            of_progress(&mut stands, Edge::Move, &case.state);
             let State { own, len, moved, .. } = case.state;
             let to_end = n - (own + moved) as u64 % n;
             of_left(&mut stands, case.op, (len - moved) as usize, to_end as usize);

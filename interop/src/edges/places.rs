@@ -86,7 +86,8 @@ pub fn of_place(stands: &mut Stands, op: Op, length: usize, left: usize) {
 }
 
 /// Notes the members of a call that makes all moves that are left, so many, with so
-/// many places from the first of them to the end of the buffer.
+/// many places from the first of them to the end of the buffer. It is accepted, also
+/// where none is left.
 pub fn of_left(stands: &mut Stands, op: Op, length: usize, to_end: usize) {
     let (lengths, left, place) = match op {
         Op::SendMoveAll => (&STORED, Set::StoreLeft, Set::StorePlace),

@@ -49,16 +49,18 @@ pub fn receive_move(state: &State, desc: &[u32], buf: &[u32]) -> Answer {
     Answer::accepted(next)
 }
 
-/// "The same of every dword that is left: what that many guc_receive_copy do, one
-/// after another" (the header). The first one's refusal is the answer.
+/// "Every dword that is left: what that many guc_receive_copy do, one after another
+/// [...]; where none is left, as after the look at a message of one dword, nothing."
+/// (the header)
 pub fn receive_move_all(state: &State, desc: &[u32], buf: &[u32]) -> Answer {
-    let mut answer = receive_move(state, desc, buf);
-    if answer.code != 0 {
-        return answer;
+    let code = judge_lent(desc, buf, |n| fits_receiving(state, n));
+    if code != 0 {
+        return Answer::refused(code, state);
     }
+    let mut answer = Answer::accepted(*state);
     while answer.next.moved < answer.next.len {
         answer = receive_move(&answer.next, desc, buf);
-        assert_eq!(answer.code, 0, "a receive that moved one dword moves the others");
+        assert_eq!(answer.code, 0, "a receive that goes on moves each dword");
     }
     answer
 }

@@ -44,16 +44,17 @@ pub fn send_move(state: &State, desc: &[u32], buf: &mut [u32]) -> Answer {
     Answer::accepted(State { moved: state.moved + 1, ..*state })
 }
 
-/// "The same of every dword that is left: what that many guc_send_store do, one
-/// after another" (the header). The first one's refusal is the answer.
+/// "Every dword that is left: what that many guc_send_store do, one after another
+/// [...]; where none is left, nothing." (the header)
 pub fn send_move_all(state: &State, desc: &[u32], buf: &mut [u32]) -> Answer {
-    let mut answer = send_move(state, desc, buf);
-    if answer.code != 0 {
-        return answer;
+    let code = judge_lent(desc, buf, |n| fits_sending(state, n));
+    if code != 0 {
+        return Answer::refused(code, state);
     }
+    let mut answer = Answer::accepted(*state);
     while answer.next.moved < answer.next.len {
         answer = send_move(&answer.next, desc, buf);
-        assert_eq!(answer.code, 0, "a send that moved one dword moves the others");
+        assert_eq!(answer.code, 0, "a send that goes on moves each dword");
     }
     answer
 }

@@ -1,6 +1,8 @@
 //! Sides of two words, N and the own offset, which make whole calls only. From
 //! the header: "Between them it is always idle, so that these two words are all of
-//! it", and their calls are the others' "answer for answer and word for word".
+//! it", and their calls "answer and change what guc_open, guc_send and guc_receive
+//! do; 3 means here only that the side was made for another N, or that its own
+//! offset is not below N".
 
 use super::{open, receive_whole, send_whole, Answer, State};
 
