@@ -18,8 +18,8 @@
 #include <time.h>
 
 #define CALLS 2000000ul   /* a scene by thread, unless the time is up before */
-#define SECONDS 0.6       /* a scene by thread */
-#define TOUCH_SECONDS 0.3 /* a scene by touch */
+#define SECONDS 0.5       /* a scene by thread */
+#define TOUCH_SECONDS 0.2 /* a scene by touch */
 #define LONG_SECONDS 900.0
 #define LATE 2.0
 #define RACED 100         /* calls that the thread should have hit, at least */

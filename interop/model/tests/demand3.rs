@@ -162,7 +162,7 @@ fn run(rng: &mut Rng, n: usize, count: usize, tally: &mut Tally) {
 fn lists_against_the_plain_channel() {
     let mut rng = Rng::new(0x0D3A);
     let mut tally = Tally::default();
-    for index in 0..3000 {
+    for index in 0..2000 {
         let (n, count) = match index % 100 {
             0 => (16384, 4000),
             1..=4 => (2048, 1000),
