@@ -127,6 +127,8 @@ static void cpd(void)
 	CHECK(dst[36] == 1 && dst[42] == 4);
 	printf("directory: manifest %u.%u.%u.%u, RSA of huc_fw at %u\n", (unsigned)m.major,
 	       (unsigned)m.minor, (unsigned)m.hotfix, (unsigned)m.build, (unsigned)part.start);
+	/* Slices that are only read may overlap: the name as it lies in the directory. */
+	CHECK(guc_cpd_part(blob, DIRECTORY, (const char *)blob + 44, 6).start == 112);
 	CHECK(seek(blob, DIRECTORY, "") == GUC_BAD_FIELD);
 	CHECK(guc_cpd_part(blob, DIRECTORY, NULL, 0).code == GUC_BAD_FIELD);
 	CHECK(guc_cpd_part(NULL, 0, GUC_NAME("huc_fw")).code == GUC_SHORT_BLOB);

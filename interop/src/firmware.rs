@@ -221,6 +221,13 @@ fn check_seek(rng: &mut Rng, tally: &mut Tally, lent: &Lent<u8>, name: &[u8]) ->
     let expected = Part { code, truncated: 0, start, len: end - start };
     let part = guc::cpd_part(lent.lend(), lent_name.lend());
     same("part", part, expected)?;
+    // Slices that are only read may overlap.
+    let within = blob.windows(name.len().max(1)).position(|bytes| bytes == name);
+    if let Some(at) = within.filter(|_| rng.chance(1, 4)) {
+        let part = guc::cpd_part(lent.lend(), Some(&blob[at..at + name.len()]));
+        same("part, the name lent where it lies in the blob", part, expected)?;
+        tally.mark("name lent where it lies in the blob", 1);
+    }
     let (stands, _) = of_directory(blob, name, Sought::Any);
     tally.answer_at(Fun::CpdPart, code, &stands)?;
     tally.input(&stands);

@@ -8,7 +8,7 @@ use crate::sets::{Members, Set, TYPES};
 use std::collections::BTreeMap;
 
 /// Things that must come up beside the numbers.
-pub const MARKS: [&str; 31] = [
+pub const MARKS: [&str; 32] = [
     "guc_interface_2 answered 2",
     "output longer than 256: rest unchanged",
     "message across the ring's end",
@@ -24,6 +24,7 @@ pub const MARKS: [&str; 31] = [
     "room longer: rest unchanged",
     "refused copy: destination unchanged",
     "part of 0 bytes at the blob's end",
+    "name lent where it lies in the blob",
     "part past 16 MiB",
     "second entry behind 65,536 others",
     "call with a slice against a forbidden page",
