@@ -1,5 +1,5 @@
 /*
- * What the two halves of the walk share.
+ * What the parts of the walk share.
  */
 #ifndef WALK_H
 #define WALK_H
@@ -18,7 +18,15 @@
 		} \
 	} while (0)
 
-/* The firmware half. */
+#define N ((size_t)GUC_RING_MIN)
+
+/* A well-formed message of len dwords, 2 to 256. */
+void make_message(uint32_t *msg, size_t len, uint32_t fence);
+
+/* Sides that make whole calls only, moves all at once, sentences. */
+void walk_sides(void);
+
+/* Firmware. */
 void walk_blobs(void);
 
 #endif /* WALK_H */

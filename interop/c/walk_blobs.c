@@ -72,9 +72,11 @@ static void css_refused(void)
 	part = guc_css_part(blob, IMAGE - 1, GUC_PART_MODULUS);
 	CHECK(part.code == GUC_OK && part.truncated == 1 && part.start == 0 && part.len == 0);
 	CHECK(guc_css_copy(blob, IMAGE - 1, GUC_PART_EXPONENT, dst, 0).code == GUC_OK);
+	CHECK(guc_css_copy(blob, IMAGE - 1, GUC_PART_EXPONENT, NULL, 0).code == GUC_OK);
+	CHECK(guc_css_copy(blob, IMAGE, GUC_PART_EXPONENT, NULL, 0).code == GUC_NO_ROOM);
 	CHECK(guc_css_answer(blob, 151).code == GUC_CSS_BEYOND);
 	CHECK(guc_css_answer(blob, 127).code == GUC_SHORT_BLOB);
-	CHECK(guc_css_version(blob, 0).code == GUC_SHORT_BLOB);
+	CHECK(guc_css_version(NULL, 0).code == GUC_SHORT_BLOB);
 	put(blob, 4, 38);
 	part = guc_css_part(blob, IMAGE, GUC_PART_RSA);
 	CHECK(part.code == GUC_CSS_SIZES && part.start == 0 && part.len == 0);
@@ -103,7 +105,7 @@ static void make_directory(uint8_t *blob)
 
 static uint32_t seek(const uint8_t *blob, size_t len, const char *name)
 {
-	return guc_cpd_part(blob, len, (const uint8_t *)name, strlen(name)).code;
+	return guc_cpd_part(blob, len, name, strlen(name)).code;
 }
 
 static void cpd(void)
@@ -121,11 +123,15 @@ static void cpd(void)
 	CHECK(guc_huc_version(blob, DIRECTORY).major == 70);
 	CHECK(guc_huc_copy(blob, DIRECTORY, GUC_PART_UCODE, dst, 16).code == GUC_OK);
 	CHECK(dst[15] == 143);
-	CHECK(guc_cpd_copy(blob, DIRECTORY, (const uint8_t *)"HUCP.man", 8, dst, 44).len == 44);
+	CHECK(guc_cpd_copy(blob, DIRECTORY, GUC_NAME("HUCP.man"), dst, 44).len == 44);
 	CHECK(dst[36] == 1 && dst[42] == 4);
 	printf("directory: manifest %u.%u.%u.%u, RSA of huc_fw at %u\n", (unsigned)m.major,
 	       (unsigned)m.minor, (unsigned)m.hotfix, (unsigned)m.build, (unsigned)part.start);
+	/* Slices that are only read may overlap: the name as it lies in the directory. */
+	CHECK(guc_cpd_part(blob, DIRECTORY, (const char *)blob + 44, 6).start == 112);
 	CHECK(seek(blob, DIRECTORY, "") == GUC_BAD_FIELD);
+	CHECK(guc_cpd_part(blob, DIRECTORY, NULL, 0).code == GUC_BAD_FIELD);
+	CHECK(guc_cpd_part(NULL, 0, GUC_NAME("huc_fw")).code == GUC_SHORT_BLOB);
 	CHECK(seek(blob, 19, "huc_fw") == GUC_SHORT_BLOB);
 	CHECK(seek(blob, 67, "huc_fw") == GUC_CPD_ENTRIES);
 	CHECK(seek(blob, DIRECTORY, "huc_f") == GUC_NO_ENTRY);
@@ -145,9 +151,9 @@ static void cpd_twice(void)
 	make_directory(blob);
 	memset(dst, 0xEE, sizeof(dst));
 	memcpy(blob + 20, blob + 44, 12);
-	part = guc_cpd_part(blob, DIRECTORY, (const uint8_t *)"huc_fw", 6);
+	part = guc_cpd_part(blob, DIRECTORY, GUC_NAME("huc_fw"));
 	CHECK(part.code == GUC_DUPLICATE_ENTRY && part.start == 0 && part.len == 0);
-	copied = guc_cpd_copy(blob, DIRECTORY, (const uint8_t *)"huc_fw", 6, dst, 44);
+	copied = guc_cpd_copy(blob, DIRECTORY, GUC_NAME("huc_fw"), dst, 44);
 	CHECK(copied.code == GUC_DUPLICATE_ENTRY && copied.len == 0 && dst[0] == 0xEE);
 	part = guc_huc_part(blob, DIRECTORY, GUC_PART_RSA);
 	CHECK(part.code == GUC_DUPLICATE_ENTRY && part.start == 0 && part.len == 0);

@@ -17,21 +17,28 @@ static void expect(uint32_t code, uint32_t wanted, const char *what)
 	wrong++;
 }
 
+/* By either kind of side: each call starts from the same memory. */
 static uint32_t send_now(void)
 {
+	struct guc_descriptor before = *ch.desc;
+	uint32_t code;
+
 	reset_channel();
-	return guc_send(ch.w, ch.desc, GUC_DESC_DWORDS, ch.ring, N, ch.msg, 2);
+	code = guc_whole_send(&ch.now.whole_sender, ch.desc, ch.ring, N, ch.msg, 2);
+	*ch.desc = before;
+	expect(guc_send(&ch.now.sender, ch.desc, ch.ring, N, ch.msg, 2), code, "the other side");
+	return code;
 }
 
 static void message(void)
 {
-	open_at(0, 0);
+	open_at(0);
 	ch.msg[0] = 1;
 	ch.msg[1] = 0;
 	expect(send_now(), GUC_OK, "message");
 	expect(guc_unpack(ch.msg, 2).code, GUC_OK, "unpack");
 	ch.msg[1] = 0x40000000u;
-	ch.desc[GUC_DESC_TAIL] = 0;
+	ch.desc->tail = 0;
 	expect(send_now(), GUC_BAD_MESSAGE, "message rewritten");
 	expect(guc_unpack(ch.msg, 2).code, GUC_BAD_MESSAGE, "unpack rewritten");
 	ch.msg[1] = 0x70000000u;
@@ -41,43 +48,50 @@ static void message(void)
 
 static void descriptor(void)
 {
-	open_at(0, 0);
+	open_at(0);
 	ch.msg[0] = 1;
 	ch.msg[1] = 0;
 	expect(send_now(), GUC_OK, "descriptor");
-	ch.desc[GUC_DESC_TAIL] = N;
+	ch.desc->tail = N;
 	expect(send_now(), GUC_OVERFLOW, "TAIL rewritten");
 	expect(send_now(), GUC_BROKEN, "STATUS after it");
-	ch.desc[GUC_DESC_STATUS] = 0;
-	ch.desc[GUC_DESC_TAIL] = 2;
+	ch.desc->status = 0;
+	ch.desc->tail = 2;
 	expect(send_now(), GUC_MISMATCH, "TAIL rewritten again");
-	ch.desc[GUC_DESC_STATUS] = 0;
-	ch.desc[GUC_DESC_TAIL] = 0;
+	ch.desc->status = 0;
+	ch.desc->tail = 0;
 	expect(send_now(), GUC_OK, "descriptor put back");
 }
 
 static uint32_t receive_now(void)
 {
+	struct guc_descriptor before = *ch.desc;
+	uint32_t code;
+
 	reset_channel();
-	return guc_receive(ch.w, ch.desc, GUC_DESC_DWORDS, ch.ring, N, ch.out, 256).code;
+	code = guc_whole_receive(&ch.now.whole_receiver, ch.desc, ch.ring, N, ch.out, 256).code;
+	*ch.desc = before;
+	expect(guc_receive(&ch.now.receiver, ch.desc, ch.ring, N, ch.out, 256).code, code,
+	       "the other side");
+	return code;
 }
 
 static void ring(void)
 {
-	open_at(0, 1);
+	open_at(0);
 	ch.ring[0] = 2;
 	ch.ring[1] = 0;
-	ch.desc[GUC_DESC_TAIL] = 3;
+	ch.desc->tail = 3;
 	expect(receive_now(), GUC_OK, "ring");
 	ch.ring[1] = 0x40000000u;
-	ch.desc[GUC_DESC_HEAD] = 0;
+	ch.desc->head = 0;
 	expect(receive_now(), GUC_MALFORMED, "ring rewritten");
 	ch.ring[0] = 3;
-	ch.desc[GUC_DESC_HEAD] = 0;
+	ch.desc->head = 0;
 	expect(receive_now(), GUC_UNDERFLOW, "ring rewritten again");
 	ch.ring[0] = 2;
 	ch.ring[1] = 0;
-	ch.desc[GUC_DESC_STATUS] = 0;
+	ch.desc->status = 0;
 	expect(receive_now(), GUC_OK, "ring put back");
 }
 

@@ -208,7 +208,7 @@ void lay_unpacked_rewritten(unsigned v)
 	static const uint32_t word[3] = { 0xE0AB0010u, 0x7FFFFFFFu, 0x40000000u };
 
 	lay_directory();
-	open_at(0, 0);
+	open_at(0);
 	ch.len = 4;
 	rewritten(ch.msg, 4, 0x12340003u, header[v]);
 	rewritten(ch.msg + 1, 4, 0x01234567u, word[v]);

@@ -12,7 +12,8 @@
 
 /* What the next call is asked: image is the CSS image, at the blob's end. */
 struct asked {
-	uint8_t *blob, *image, *name, *dst; /* each ends where no byte can be touched */
+	uint8_t *blob, *image, *dst; /* each ends where no byte can be touched, the name too */
+	char *name;
 	size_t image_len, name_len, room;
 	uint32_t which;
 };

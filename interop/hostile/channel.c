@@ -4,23 +4,33 @@
  */
 #include "hostile.h"
 
+#include <stdlib.h>
 #include <string.h>
 
 struct channel ch;
 
-void open_at(uint32_t own, int receiver)
+/* The openings take what is opened; the offsets are then put where a scene wants them. */
+static void open_sides(uint32_t own)
 {
-	uint32_t other[GUC_STATE_WORDS];
+	struct sides *w = &ch.was;
+
+	if (guc_open(&w->sender, &w->receiver, ch.desc, ch.ring, N) ||
+	    guc_whole_open(&w->whole_sender, &w->whole_receiver, ch.desc, ch.ring, N))
+		exit(2);
+	w->sender.words[AT_OWN] = w->receiver.words[AT_OWN] = own;
+	w->whole_sender.own = w->whole_receiver.own = own;
+}
+
+void open_at(uint32_t own)
+{
 	uint32_t k;
 
 	if (!ch.desc) {
-		ch.desc = lent(4 * GUC_DESC_DWORDS);
+		ch.desc = lent(sizeof(*ch.desc));
 		ch.ring = lent(4 * N);
 		ch.msg = lent(4 * GUC_MESSAGE_DWORDS);
 	}
-	guc_open(receiver ? other : ch.w_was, receiver ? ch.w_was : other, ch.desc,
-		 GUC_DESC_DWORDS, ch.ring, N);
-	ch.w_was[GUC_STATE_OWN] = own;
+	open_sides(own);
 	ch.own = own;
 	for (k = 0; k < N; k++)
 		ch.ring_was[k] = 0xC0000000u + k;
@@ -29,9 +39,15 @@ void open_at(uint32_t own, int receiver)
 
 void reset_channel(void)
 {
-	memcpy(ch.w, ch.w_was, sizeof(ch.w));
+	ch.now = ch.was;
 	ch.stuck = 0;
 	answer = 999;
+}
+
+void uses(const void *side, size_t bytes)
+{
+	ch.side = side;
+	ch.side_words = bytes / 4;
 }
 
 int well_formed(uint32_t header, uint32_t word)
@@ -41,23 +57,24 @@ int well_formed(uint32_t header, uint32_t word)
 
 const char *idle_at(uint32_t own)
 {
-	static const uint32_t zeros[GUC_STATE_WORDS];
-	const uint32_t *w = ch.w;
+	const uint32_t *w = ch.side;
+	size_t k;
 
-	if (w[GUC_STATE_OWN] >= N)
-		return complain("answer %u: own offset %u", answer, w[GUC_STATE_OWN]);
-	if (w[GUC_STATE_N] != N || w[GUC_STATE_OWN] != own)
-		return complain("answer %u: state for N %u at %u, not at %u", answer,
-				w[GUC_STATE_N], w[GUC_STATE_OWN], own);
-	if (memcmp(w + GUC_STATE_LEN, zeros, sizeof(zeros) - 8))
-		return complain("answer %u: the state is not idle", answer);
+	if (w[AT_OWN] >= N)
+		return complain("answer %u: own offset %u", answer, w[AT_OWN]);
+	if (w[AT_N] != N || w[AT_OWN] != own)
+		return complain("answer %u: side for N %u at %u, not at %u", answer, w[AT_N],
+				w[AT_OWN], own);
+	for (k = AT_LEN; k < ch.side_words; k++)
+		if (w[k])
+			return complain("answer %u: the side is not idle", answer);
 	return NULL;
 }
 
 const char *as_before(void)
 {
-	if (memcmp(ch.w, ch.w_was, sizeof(ch.w)))
-		return complain("answer %u: the state changed", answer);
+	if (memcmp(&ch.now, &ch.was, sizeof(ch.now)))
+		return complain("answer %u: a side changed", answer);
 	return ring_outside(0);
 }
 

@@ -4,7 +4,7 @@
  * touch is a page fault. The first is the real thing, and chance decides what
  * it hits; of the second a seed's calls are the same on any machine, the time
  * only says how many there are. Usage:
- *   hostile [seed [calls of the two attacks of the audit]]
+ *   hostile [seed [calls of the two attacks of the audit [percent of the time]]]
  */
 #define _GNU_SOURCE
 #include "engine.h"
@@ -18,9 +18,10 @@
 #include <time.h>
 
 #define CALLS 2000000ul   /* a scene by thread, unless the time is up before */
-#define SECONDS 0.6       /* a scene by thread */
-#define TOUCH_SECONDS 0.3 /* a scene by touch */
+#define SECONDS 0.5       /* a scene by thread */
+#define TOUCH_SECONDS 0.2 /* a scene by touch */
 #define LONG_SECONDS 900.0
+#define LATE 2.0
 #define RACED 100         /* calls that the thread should have hit, at least */
 #define BY_TOUCH 1        /* calls that a rewrite by touch must have hit */
 #define TOUCHED 60        /* calls of a variant by touch, whatever the time */
@@ -38,6 +39,7 @@ static struct word words[8];
 static unsigned named;
 static char complaint[160];
 static unsigned long all_calls, all_bad, attack_calls;
+static double share = 1; /* of the time that a scene has */
 static int idle_scenes;
 static atomic_int stop;
 static _Alignas(64) atomic_ulong rounds;
@@ -170,7 +172,7 @@ static void place(pthread_t thread, int which)
 }
 
 /* Calls of one variant beside the writer: quota of them, or until the time is
- * up; and some more, for at most two seconds, where no rewrite has hit one. */
+ * up; and some more, for at most LATE seconds, where no rewrite has hit one. */
 static void beside(const struct scene *s, struct tally *t, unsigned v, unsigned long quota,
 		   double seconds)
 {
@@ -181,7 +183,8 @@ static void beside(const struct scene *s, struct tally *t, unsigned v, unsigned 
 		if (k % 64 == 0) {
 			double at = now();
 
-			if ((k >= quota || at >= until) && (t->raced >= hits || at >= until + 2))
+			if ((k >= quota || at >= until) &&
+			    (t->raced >= hits || at >= until + share * LATE))
 				return;
 		}
 		s->reset();
@@ -208,7 +211,7 @@ static void by_thread(const struct scene *s, struct tally *t, uint64_t seed)
 		place(thread, 1);
 		while (!atomic_load(&rounds))
 			sched_yield();
-		beside(s, t, v, quota, (attack ? LONG_SECONDS : SECONDS) / s->variants);
+		beside(s, t, v, quota, (attack ? LONG_SECONDS : share * SECONDS) / s->variants);
 		atomic_store(&stop, 1);
 		pthread_join(thread, NULL);
 	}
@@ -216,7 +219,7 @@ static void by_thread(const struct scene *s, struct tally *t, uint64_t seed)
 
 static void by_touch(const struct scene *s, struct tally *t, uint64_t seed)
 {
-	double slice = TOUCH_SECONDS / s->variants, until;
+	double slice = share * TOUCH_SECONDS / s->variants, until;
 	unsigned k, v;
 
 	for (v = 0; v < s->variants; v++) {
@@ -241,7 +244,7 @@ static void by_touch(const struct scene *s, struct tally *t, uint64_t seed)
 static void tell(const struct scene *s, const char *by, const struct tally *t, uint64_t seed,
 		 unsigned long least)
 {
-	printf("%-27s %-6s %8lu %8lu %8lu %7lu %5.1f %4lu\n", s->name, by, t->calls, t->raced,
+	printf("%-32s %-6s %8lu %8lu %8lu %7lu %5.1f %4lu\n", s->name, by, t->calls, t->raced,
 	       t->taken, t->bad, now() - t->began, (unsigned long)seed);
 	if (t->bad)
 		printf("    bad %s\n", t->first);
@@ -275,11 +278,12 @@ int main(int argc, char **argv)
 	unsigned long afresh;
 
 	attack_calls = argc > 2 ? strtoul(argv[2], NULL, 10) : 0;
+	share = argc > 3 ? strtod(argv[3], NULL) / 100 : 1;
 	touches_catch();
 	sched_getaffinity(0, sizeof(allowed), &allowed);
 	place(pthread_self(), 0);
 	printf("hostile writers: lent words change while calls run\n");
-	printf("%-27s %-6s %8s %8s %8s %7s %5s %4s\n", "call, what is rewritten", "by", "calls",
+	printf("%-32s %-6s %8s %8s %8s %7s %5s %4s\n", "call, what is rewritten", "by", "calls",
 	       "raced", "taken", "bad", "s", "seed");
 	seed += seed == 0;
 	run(send_scenes, &seed);

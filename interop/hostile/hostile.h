@@ -64,27 +64,45 @@ const char *complain(const char *format, ...) __attribute__((format(printf, 1, 2
  */
 #define N 1024u
 
+/* Places of a side's words: n and own of either kind, the others of one that makes
+ * steps. The header names own, len and moved alone; the rest is the archive's own. */
+enum { AT_N = 0, AT_OWN = 1, AT_LEN = 2, AT_MOVED = 3, AT_COPY = 4 };
+
+/* A side of each kind; a scene's call uses one of them. */
+struct sides {
+	struct guc_sender sender;
+	struct guc_receiver receiver;
+	struct guc_whole_sender whole_sender;
+	struct guc_whole_receiver whole_receiver;
+};
+
 struct channel {
-	uint32_t w[GUC_STATE_WORDS], w_was[GUC_STATE_WORDS];
+	struct sides now, was;
+	const uint32_t *side; /* the words of the one that is used */
+	size_t side_words;
 	uint32_t ring_was[N];
 	uint32_t out[GUC_MESSAGE_DWORDS + 8];
-	uint32_t *desc, *ring, *msg; /* lent() */
-	uint32_t own;                /* own offset before the call */
-	size_t len;                  /* L of the message at hand */
-	uint32_t stuck;              /* a step's number after a look of 0 */
+	struct guc_descriptor *desc; /* lent(), as the next two */
+	uint32_t *ring, *msg;
+	uint32_t own;   /* own offset before the call */
+	size_t len;     /* L of the message at hand */
+	uint32_t stuck; /* a step's number after a look of 0 */
 };
 
 extern struct channel ch;
 
-/* An idle side at own, an empty ring of known contents. */
-void open_at(uint32_t own, int receiver);
+/* Idle sides at own, an empty ring of known contents. */
+void open_at(uint32_t own);
 void reset_channel(void);
+
+/* The side that the call uses. */
+void uses(const void *side, size_t bytes);
 
 int well_formed(uint32_t header, uint32_t word);
 
 /* 0, or a complaint. */
-const char *idle_at(uint32_t own);           /* the state is idle there */
-const char *as_before(void);                 /* state and ring unchanged */
+const char *idle_at(uint32_t own);           /* the side is idle there */
+const char *as_before(void);                 /* sides and ring unchanged */
 const char *ring_outside(size_t stored);     /* but for these from own on */
 const char *out_beyond(size_t laid);         /* out unchanged but for these */
 

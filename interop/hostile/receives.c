@@ -18,7 +18,7 @@ static uint32_t after(uint32_t moved)
 /* A pending message of len dwords at own. */
 static void lay_pending(uint32_t own, size_t len)
 {
-	open_at(own, 1);
+	open_at(own);
 	ch.len = len;
 	ch.ring_was[own] = 0x43210000u | (uint32_t)(len - 1);
 	ch.ring_was[after(1)] = 0x10000020u;
@@ -42,38 +42,67 @@ static void reset_receive(void)
 {
 	reset_channel();
 	memset(ch.out, 0x55, sizeof(ch.out));
-	ch.desc[GUC_DESC_HEAD] = ch.own;
-	ch.desc[GUC_DESC_TAIL] = after(USED);
-	ch.desc[GUC_DESC_STATUS] = 0;
+	ch.desc->head = ch.own;
+	ch.desc->tail = after(USED);
+	ch.desc->status = 0;
 }
 
 static void whole(void)
 {
-	got = guc_receive(ch.w, ch.desc, GUC_DESC_DWORDS, ch.ring, N, ch.out,
-			  GUC_MESSAGE_DWORDS);
+	uses(&ch.now.receiver, sizeof(ch.now.receiver));
+	got = guc_receive(&ch.now.receiver, ch.desc, ch.ring, N, ch.out, GUC_MESSAGE_DWORDS);
 	answer = got.code;
 }
 
-/* A look, and where it answers 0 the steps that must then go through. */
-static void steps(void)
+/* By a side that makes no other calls. */
+static void two(void)
 {
-	uint32_t k, len;
+	uses(&ch.now.whole_receiver, sizeof(ch.now.whole_receiver));
+	got = guc_whole_receive(&ch.now.whole_receiver, ch.desc, ch.ring, N, ch.out,
+				GUC_MESSAGE_DWORDS);
+	answer = got.code;
+}
 
+/* A look; whether it answers 0, so that the steps must then go through. */
+static int look(void)
+{
+	uses(&ch.now.receiver, sizeof(ch.now.receiver));
 	got.len = 0;
-	answer = guc_receive_look(ch.w, ch.desc, GUC_DESC_DWORDS, ch.ring, N);
-	if (answer != GUC_OK)
-		return;
-	len = ch.w[GUC_STATE_LEN];
-	for (k = 1; k < len && !ch.stuck; k++)
-		ch.stuck = guc_receive_copy(ch.w, ch.desc, GUC_DESC_DWORDS, ch.ring, N);
+	answer = guc_receive_look(&ch.now.receiver, ch.desc, ch.ring, N);
+	return answer == GUC_OK;
+}
+
+static void publish(void)
+{
 	if (ch.stuck)
 		return;
-	got = guc_receive_publish(ch.w, ch.desc, GUC_DESC_DWORDS, ch.ring, N, ch.out,
+	got = guc_receive_publish(&ch.now.receiver, ch.desc, ch.ring, N, ch.out,
 				  GUC_MESSAGE_DWORDS);
 	if (got.code == GUC_OK || got.code == GUC_MALFORMED)
 		answer = got.code;
 	else
 		ch.stuck = got.code;
+}
+
+static void steps(void)
+{
+	uint32_t k, len;
+
+	if (!look())
+		return;
+	len = guc_receiver_len(&ch.now.receiver);
+	for (k = 1; k < len && !ch.stuck; k++)
+		ch.stuck = guc_receive_copy(&ch.now.receiver, ch.desc, ch.ring, N);
+	publish();
+}
+
+/* All copies at once, if only of none. */
+static void halves(void)
+{
+	if (!look())
+		return;
+	ch.stuck = guc_receive_copy_all(&ch.now.receiver, ch.desc, ch.ring, N);
+	publish();
 }
 
 /* What an accepted receive laid, whoever wrote the ring meanwhile. */
@@ -96,14 +125,14 @@ static const char *judge_laid(void)
 
 static const char *stuck(void)
 {
-	return complain("look 0, then a step's %u: L %u, copy 0x%08X", ch.stuck,
-			ch.w[GUC_STATE_LEN], ch.w[GUC_STATE_COPY]);
+	return complain("look 0, then a step's %u: L %u, moved %u, copy 0x%08X", ch.stuck,
+			ch.side[AT_LEN], ch.side[AT_MOVED], ch.side[AT_COPY]);
 }
 
 /* 13: past the message by a length that one of the two headers has. */
 static const char *judge_malformed(void)
 {
-	uint32_t moved = (ch.desc[GUC_DESC_HEAD] - ch.own) % N;
+	uint32_t moved = (ch.desc->head - ch.own) % N;
 
 	if ((moved != face_len[0] && moved != face_len[1]) || moved > USED || got.len != 0)
 		return complain("answer 13: HEAD moved by %u, L %u", moved, (unsigned)got.len);
@@ -118,15 +147,15 @@ static const char *judge_ring(void)
 	if (answer == GUC_MALFORMED)
 		return judge_malformed();
 	if (answer == GUC_OK) {
-		if (ch.desc[GUC_DESC_HEAD] != after((uint32_t)got.len))
+		if (ch.desc->head != after((uint32_t)got.len))
 			return complain("taken, L %u, HEAD %u", (unsigned)got.len,
-					ch.desc[GUC_DESC_HEAD]);
+					ch.desc->head);
 		return judge_laid();
 	}
-	if (answer != GUC_UNDERFLOW || got.len != 0 || ch.desc[GUC_DESC_STATUS] != 2)
-		return complain("answer %u, STATUS %u", answer, ch.desc[GUC_DESC_STATUS]);
-	if (memcmp(ch.w, ch.w_was, sizeof(ch.w)) || ch.desc[GUC_DESC_HEAD] != ch.own)
-		return complain("answer 9: state or HEAD changed");
+	if (answer != GUC_UNDERFLOW || got.len != 0 || ch.desc->status != 2)
+		return complain("answer %u, STATUS %u", answer, ch.desc->status);
+	if (memcmp(&ch.now, &ch.was, sizeof(ch.now)) || ch.desc->head != ch.own)
+		return complain("answer 9: side or HEAD changed");
 	return out_beyond(0);
 }
 
@@ -139,9 +168,9 @@ static void lay_descriptor(unsigned v)
 				   (own + 700) % N };
 
 	lay_pending(own, len);
-	rewritten(ch.desc + GUC_DESC_HEAD, 4, own, head[v]);
-	rewritten(ch.desc + GUC_DESC_TAIL, 4, after(len), tail[v]);
-	rewritten(ch.desc + GUC_DESC_STATUS, 4, 0, 1u << v);
+	rewritten(&ch.desc->head, 4, own, head[v]);
+	rewritten(&ch.desc->tail, 4, after(len), tail[v]);
+	rewritten(&ch.desc->status, 4, 0, 1u << v);
 }
 
 static void reset_out(void)
@@ -167,8 +196,12 @@ static const char *judge_descriptor(void)
 
 const struct scene receive_scenes[] = {
 	{ "guc_receive, ring", 6, lay_ring, reset_receive, whole, judge_ring, 0 },
+	{ "guc_whole_receive, ring", 6, lay_ring, reset_receive, two, judge_ring, 0 },
 	{ "receive steps, ring", 6, lay_ring, reset_receive, steps, judge_ring, 0 },
+	{ "guc_receive_copy_all, ring", 6, lay_ring, reset_receive, halves, judge_ring, 0 },
 	{ "guc_receive, descriptor", 6, lay_descriptor, reset_out, whole, judge_descriptor, 0 },
+	{ "guc_whole_receive, descriptor", 6, lay_descriptor, reset_out, two, judge_descriptor, 0 },
 	{ "receive steps, descriptor", 6, lay_descriptor, reset_out, steps, judge_descriptor, 0 },
+	{ "guc_receive_copy_all, descriptor", 6, lay_descriptor, reset_out, halves, judge_descriptor, 0 },
 	{ 0, 0, 0, 0, 0, 0, 0 },
 };

@@ -12,7 +12,7 @@ static void lay_message(uint32_t own, size_t len)
 {
 	size_t k;
 
-	open_at(own, 0);
+	open_at(own);
 	ch.len = len;
 	ch.msg[0] = 0x12340000u | (uint32_t)(len - 1);
 	ch.msg[1] = 0x00000010u;
@@ -37,31 +37,57 @@ static void reset_send(void)
 {
 	reset_channel();
 	memcpy(ch.ring, ch.ring_was, sizeof(ch.ring_was));
-	ch.desc[GUC_DESC_HEAD] = ch.own;
-	ch.desc[GUC_DESC_TAIL] = ch.own;
-	ch.desc[GUC_DESC_STATUS] = 0;
+	ch.desc->head = ch.own;
+	ch.desc->tail = ch.own;
+	ch.desc->status = 0;
 }
 
 static void whole(void)
 {
-	answer = guc_send(ch.w, ch.desc, GUC_DESC_DWORDS, ch.ring, N, ch.msg, ch.len);
+	uses(&ch.now.sender, sizeof(ch.now.sender));
+	answer = guc_send(&ch.now.sender, ch.desc, ch.ring, N, ch.msg, ch.len);
 }
 
-/* A look, and where it answers 0 the steps that must then go through. */
+/* By a side that makes no other calls. */
+static void two(void)
+{
+	uses(&ch.now.whole_sender, sizeof(ch.now.whole_sender));
+	answer = guc_whole_send(&ch.now.whole_sender, ch.desc, ch.ring, N, ch.msg, ch.len);
+}
+
+/* A look; whether it answers 0, so that the steps must then go through. */
+static int look(void)
+{
+	struct guc_sender *s = &ch.now.sender;
+
+	uses(s, sizeof(*s));
+	answer = guc_send_look(s, ch.desc, ch.ring, N, ch.msg, ch.len);
+	copied[0] = s->words[AT_LEN];
+	copied[1] = s->words[AT_COPY];
+	copied[2] = s->words[AT_COPY + 1];
+	return answer == GUC_OK;
+}
+
 static void steps(void)
 {
 	size_t k;
 
-	answer = guc_send_look(ch.w, ch.desc, GUC_DESC_DWORDS, ch.ring, N, ch.msg, ch.len);
-	if (answer != GUC_OK)
+	if (!look())
 		return;
-	copied[0] = ch.w[GUC_STATE_LEN];
-	copied[1] = ch.w[GUC_STATE_COPY];
-	copied[2] = ch.w[GUC_STATE_COPY + 1];
 	for (k = 0; k < ch.len && !ch.stuck; k++)
-		ch.stuck = guc_send_store(ch.w, ch.desc, GUC_DESC_DWORDS, ch.ring, N);
+		ch.stuck = guc_send_store(&ch.now.sender, ch.desc, ch.ring, N);
 	if (!ch.stuck)
-		ch.stuck = guc_send_publish(ch.w, ch.desc, GUC_DESC_DWORDS, ch.ring, N);
+		ch.stuck = guc_send_publish(&ch.now.sender, ch.desc, ch.ring, N);
+}
+
+/* All stores at once. */
+static void halves(void)
+{
+	if (!look())
+		return;
+	ch.stuck = guc_send_store_all(&ch.now.sender, ch.desc, ch.ring, N);
+	if (!ch.stuck)
+		ch.stuck = guc_send_publish(&ch.now.sender, ch.desc, ch.ring, N);
 }
 
 /* What an accepted send left: the ring's message, the state, the other places. */
@@ -88,12 +114,12 @@ static const char *judge_taken(void)
 
 static const char *judge_message(void)
 {
-	uint32_t tail = ch.desc[GUC_DESC_TAIL];
+	uint32_t tail = ch.desc->tail;
 
 	showed = answer == GUC_OK;
 	if (answer != GUC_OK && answer != GUC_BAD_MESSAGE)
 		return complain("answer %u", answer);
-	if (ch.desc[GUC_DESC_HEAD] != ch.own || ch.desc[GUC_DESC_STATUS] != 0)
+	if (ch.desc->head != ch.own || ch.desc->status != 0)
 		return complain("answer %u: HEAD or STATUS changed", answer);
 	if (answer == GUC_BAD_MESSAGE)
 		return tail == ch.own ? as_before() : complain("answer 4: TAIL moved");
@@ -112,12 +138,12 @@ static void lay_descriptor(unsigned v)
 	const uint32_t tail[6] = { own + 5, N, own + N, 0xFFFFFFFFu, (own + 1) % N, 0 };
 
 	lay_message(own, len);
-	rewritten(ch.desc + GUC_DESC_HEAD, 4, own, head[v]);
-	rewritten(ch.desc + GUC_DESC_TAIL, 4, own, tail[v]);
+	rewritten(&ch.desc->head, 4, own, head[v]);
+	rewritten(&ch.desc->tail, 4, own, tail[v]);
 	if (v < 3)
-		rewritten(ch.desc + GUC_DESC_STATUS, 4, 0, 1u << v);
+		rewritten(&ch.desc->status, 4, 0, 1u << v);
 	else
-		ch.desc[GUC_DESC_STATUS] = 0;
+		ch.desc->status = 0;
 }
 
 /* STATUS, where it is not rewritten, would stay broken after 7 and 8. */
@@ -125,7 +151,7 @@ static void reset_ring(void)
 {
 	reset_channel();
 	memcpy(ch.ring, ch.ring_was, sizeof(ch.ring_was));
-	ch.desc[GUC_DESC_STATUS] = 0;
+	ch.desc->status = 0;
 }
 
 static const char *judge_descriptor(void)
@@ -145,8 +171,12 @@ static const char *judge_descriptor(void)
 
 const struct scene send_scenes[] = {
 	{ "guc_send, message", 6, lay_faces, reset_send, whole, judge_message, 1 },
+	{ "guc_whole_send, message", 6, lay_faces, reset_send, two, judge_message, 0 },
 	{ "send steps, message", 6, lay_faces, reset_send, steps, judge_message, 1 },
+	{ "guc_send_store_all, message", 6, lay_faces, reset_send, halves, judge_message, 0 },
 	{ "guc_send, descriptor", 6, lay_descriptor, reset_ring, whole, judge_descriptor, 0 },
+	{ "guc_whole_send, descriptor", 6, lay_descriptor, reset_ring, two, judge_descriptor, 0 },
 	{ "send steps, descriptor", 6, lay_descriptor, reset_ring, steps, judge_descriptor, 0 },
+	{ "guc_send_store_all, descriptor", 6, lay_descriptor, reset_ring, halves, judge_descriptor, 0 },
 	{ 0, 0, 0, 0, 0, 0, 0 },
 };

@@ -5,7 +5,8 @@
 
 #include <string.h>
 
-static uint8_t name[12], dst[64];
+static uint8_t dst[64];
+static char name[12];
 static unsigned also; /* for 22: entries beside the sought one that have its name, a bit for each */
 
 static const char *const components[4] = { "ucode", "rsa", "modulus", "exponent" };

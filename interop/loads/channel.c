@@ -3,50 +3,71 @@
  */
 #include "channel.h"
 
-uint32_t sender[GUC_STATE_WORDS], receiver[GUC_STATE_WORDS];
-uint32_t desc[GUC_DESC_DWORDS], msg[GUC_MESSAGE_DWORDS], out[GUC_MESSAGE_DWORDS];
-size_t desc_len, n, msg_len, out_len;
+#include <stdio.h>
+#include <stdlib.h>
+
+struct guc_sender sender;
+struct guc_receiver receiver;
+struct guc_whole_sender whole_sender;
+struct guc_whole_receiver whole_receiver;
+struct guc_descriptor desc;
+uint32_t msg[GUC_MESSAGE_DWORDS], out[GUC_MESSAGE_DWORDS];
+size_t n, msg_len, out_len;
 uint32_t ring_size = N;
 
 enum { OUTSIDE = 256 };
 static uint32_t ring_memory[OUTSIDE + MOST_N + OUTSIDE];
 uint32_t *const ring = ring_memory + OUTSIDE;
 
+void must(uint32_t code)
+{
+	if (code == GUC_OK)
+		return;
+	fprintf(stderr, "a call that prepares another answered %u\n", code);
+	exit(1);
+}
+
 void lay(uint32_t own, uint32_t len, int pending)
 {
 	uint32_t k;
 
-	desc_len = GUC_DESC_DWORDS;
 	n = ring_size;
 	msg_len = len;
 	out_len = GUC_MESSAGE_DWORDS;
-	guc_open(sender, receiver, desc, desc_len, ring, n);
-	sender[GUC_STATE_OWN] = receiver[GUC_STATE_OWN] = own;
+	must(guc_open(&sender, &receiver, &desc, ring, n));
+	must(guc_whole_open(&whole_sender, &whole_receiver, &desc, ring, n));
+	sender.words[AT_OWN] = receiver.words[AT_OWN] = own;
+	whole_sender.own = whole_receiver.own = own;
 	for (k = 0; k < len; k++)
 		msg[k] = k > 1 ? 0xD0000000u + k : k ? 0x10000020u : 0x43210000u + len - 1;
 	for (k = 0; k < len && pending; k++)
 		ring[(own + k) % ring_size] = msg[k];
-	desc[GUC_DESC_HEAD] = own;
-	desc[GUC_DESC_TAIL] = pending ? (own + len) % ring_size : own;
+	desc.head = own;
+	desc.tail = pending ? (own + len) % ring_size : own;
+}
+
+void lent_two(const uint32_t *n_of, const uint32_t *own_of)
+{
+	lent("n", n_of, 4);
+	lent("own", own_of, 4);
 }
 
 void lent_state(const uint32_t *w)
 {
-	lent("n", w + GUC_STATE_N, 4);
-	lent("own", w + GUC_STATE_OWN, 4);
-	lent("len", w + GUC_STATE_LEN, 4);
-	lent("moved", w + GUC_STATE_MOVED, 4);
-	lent("copy.header", w + GUC_STATE_COPY, 4);
-	lent("copy.second", w + GUC_STATE_COPY + 1, 4);
-	lent("copy.rest", w + GUC_STATE_COPY + 2, 4 * 254);
+	lent_two(w + AT_N, w + AT_OWN);
+	lent("len", w + AT_LEN, 4);
+	lent("moved", w + AT_MOVED, 4);
+	lent("copy.header", w + AT_COPY, 4);
+	lent("copy.second", w + AT_COPY + 1, 4);
+	lent("copy.rest", w + AT_COPY + 2, 4 * 254);
 }
 
 void lent_desc(void)
 {
-	lent("HEAD", desc + GUC_DESC_HEAD, 4);
-	lent("TAIL", desc + GUC_DESC_TAIL, 4);
-	lent("STATUS", desc + GUC_DESC_STATUS, 4);
-	lent("reserved", desc + 3, 4 * 13);
+	lent("HEAD", &desc.head, 4);
+	lent("TAIL", &desc.tail, 4);
+	lent("STATUS", &desc.status, 4);
+	lent("reserved", desc.reserved, sizeof(desc.reserved));
 }
 
 /* count dwords of the ring from one on, around its end where they go there. */
@@ -77,6 +98,13 @@ void lent_ring_next(uint32_t next)
 {
 	lent_run("ring.next", next, 1);
 	lent_run("ring.else", next + 1, ring_size - 1);
+	lent_outside();
+}
+
+void lent_ring_left(uint32_t first, uint32_t left)
+{
+	lent_run("ring.left", first, left);
+	lent_run("ring.else", first + left, ring_size - left);
 	lent_outside();
 }
 

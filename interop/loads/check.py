@@ -2,7 +2,7 @@
 
 SAID is what the driver said of its calls, TRACE what valgrind's lackey saw of
 every instruction, load and store. Prints a line for each word that was loaded
-otherwise than the table says, and a summary; then how whole calls copied
+or stored to otherwise than the table says, and a summary; then how calls copied
 (copies.py); exit status 1 if anything was wrong.
 
 What this cannot see: lackey shows the archive's own instructions, one after
@@ -15,10 +15,12 @@ import sys
 import textwrap
 from collections import namedtuple
 from fnmatch import fnmatchcase
+from functools import lru_cache
 
 from copies import judge_copies
 
 Rule = namedtuple('Rule', 'calls answers words least most')
+Store = namedtuple('Store', 'calls answers words allowed')
 Order = namedtuple('Order', 'calls answers left right')
 Event = namedtuple('Event', 'load store at bytes instruction')
 
@@ -35,18 +37,20 @@ def fits(name, patterns):
 
 
 def read_table(path):
-    rules, orders = [], []
+    rules, stores, orders = [], [], []
     for line in open(path):
-        columns = [c.split() for c in line.split('#')[0].split('|')]
-        if len(columns) == 4:
+        columns = [tuple(c.split()) for c in line.split('#')[0].split('|')]
+        if len(columns) == 4 and columns[3][0] in ('stored', 'unstored'):
+            stores.append(Store(*columns[:3], columns[3] == ('stored',)))
+        elif len(columns) == 4:
             loads = columns[3][0]
             least, most = {'0': (0, 0), '0-1': (0, 1), '1': (1, 1), 'any': (0, float('inf'))}[loads]
             rules.append(Rule(*columns[:3], least, most))
-        elif len(columns) == 5 and columns[3] == ['after']:
+        elif len(columns) == 5 and columns[3] == ('after',):
             orders.append(Order(*columns[:2], columns[2], columns[4]))
-        elif columns != [[]]:
+        elif columns != [()]:
             sys.exit('table: not understood: ' + line)
-    return rules, orders
+    return tuple(rules), tuple(stores), orders
 
 
 def read_said(path):
@@ -87,12 +91,17 @@ def loads_of(call):
     return count
 
 
+@lru_cache(maxsize=None)
+def last_fit(function, answer, word, rules):
+    for r in reversed(rules):
+        if fits(function, r.calls) and fits(answer, r.answers) and fits(word, r.words):
+            return r
+    sys.exit('the table says nothing of %s in %s' % (word, function))
+
+
 def rule_for(call, word, rules):
     """The last rule that fits."""
-    for r in reversed(rules):
-        if fits(call.function, r.calls) and fits(call.answer, r.answers) and fits(word, r.words):
-            return r
-    sys.exit('the table says nothing of %s in %s' % (word, call.function))
+    return last_fit(call.function, call.answer, word, rules)
 
 
 def units(at, size):
@@ -106,11 +115,23 @@ def loaded_wrongly(call, rules):
     count = loads_of(call)
     for word, at, size in call.lent:
         rule = rule_for(call, word, rules)
-        loads = [max(count.get(byte, 0) for byte in unit) for unit in units(at, size)]
+        if rule.least == 0 and size > len(count):   # the ring, say: look at what was loaded
+            loads = [n for byte, n in count.items() if at <= byte < at + size]
+        else:
+            loads = [max(count.get(byte, 0) for byte in unit) for unit in units(at, size)]
         bad = [n for n in loads if not rule.least <= n <= rule.most]
         if bad:
             may = 'must be 1' if rule.least else 'at most 1' if rule.most else 'must be 0'
             yield call.function, 'loads %d, %s' % (max(bad), may), word, call.answer
+
+
+def stored_wrongly(call, stores):
+    """The same for each word that was stored to and may not be."""
+    written = [range(e.at, e.at + e.bytes) for e in call.events if e.store]
+    for word, at, size in call.lent:
+        touched = any(w.start < at + size and at < w.stop for w in written)
+        if touched and not rule_for(call, word, stores).allowed:
+            yield call.function, 'stored to', word, call.answer
 
 
 def moments(call, side):
@@ -149,10 +170,11 @@ def tell(wrong):
 
 def main():
     table, said, trace = sys.argv[1:]
-    rules, orders = read_table(table)
+    rules, stores, orders = read_table(table)
     calls, mark = read_said(said)
     read_trace(trace, calls, mark)
-    wrong = [line for call in calls for line in (*loaded_wrongly(call, rules), *out_of_order(call, orders))]
+    wrong = [line for call in calls for line in (*loaded_wrongly(call, rules), *stored_wrongly(call, stores),
+                                                 *out_of_order(call, orders))]
     broken = tell(wrong)
     words = sum(len(call.lent) for call in calls)
     print('loads: %d calls of %d functions, %d lent words, %d not as the table says'

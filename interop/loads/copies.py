@@ -1,8 +1,9 @@
-"""How accepted whole sends and receives copy, from the trace that check.py reads.
+"""How calls that move many dwords copy, from the trace that check.py reads.
 
-A send stores its message in at most two straight runs: from the own tail to the
-ring's end at most, then from the ring's dword 0. A receive loads the two dwords
-that it judges one by one, and then the rest in such runs. Held here: nothing
+A whole send stores its message in at most two straight runs: from the own tail
+to the ring's end at most, then from the ring's dword 0. A whole receive loads the
+two dwords that it judges one by one, and then the rest in such runs. A call that
+makes all moves that are left stores or loads those in such runs. Held here: nothing
 outside these runs is touched and nothing of them left out; the second run
 starts when the first is done; and a long run is a block copy, by the number of
 its instructions. Inside a run any order will do, and a byte may be moved twice,
@@ -22,6 +23,14 @@ LONG = 64   # dwords of a run whose instructions are counted
 MOST = 1.5
 JUDGED = ('ring.header', 'ring.second')
 MESSAGE = JUDGED + ('ring.rest',)
+LEFT = ('ring.left',)
+SENDS = ('guc_send', 'guc_whole_send', 'guc_send_store_all')
+RECEIVES = ('guc_receive', 'guc_whole_receive', 'guc_receive_copy_all')
+
+
+def moved(call):
+    """The words that a call moves."""
+    return LEFT if call.function.endswith('_all') else MESSAGE
 
 
 def runs(call, words):
@@ -62,11 +71,13 @@ class Copy:
         self.call, self.wrong, self.costs = call, [], []
         ring = [range(at, at + size) for word, at, size in call.lent if word.startswith('ring.')]
         self.events = [e for e in call.events if any(touches(e, part) for part in ring)]
-        if call.function == 'guc_send':
-            self.judge([e for e in self.events if e.store], runs(call, MESSAGE), 'stored')
+        if call.function in SENDS:
+            self.judge([e for e in self.events if e.store], runs(call, moved(call)), 'stored')
+        elif any(e.store for e in self.events):
+            self.wrong.append('stores to the ring')
+        elif moved(call) == LEFT:
+            self.judge(self.events, runs(call, LEFT), 'loaded')
         else:
-            if any(e.store for e in self.events):
-                self.wrong.append('stores to the ring')
             self.judge(self.behind_judged(), runs(call, ('ring.rest',)), 'loaded')
 
     def behind_judged(self):
@@ -99,8 +110,8 @@ class Copy:
 
 
 def where(call):
-    """The message's length and place in words."""
-    message = runs(call, MESSAGE)
+    """The length and place in words of what is moved."""
+    message = runs(call, moved(call))
     length = sum(map(len, message)) // 4
     n = length + sum(size for word, _, size in call.lent if word == 'ring.else') // 4
     place = 'straight' if len(message) == 1 else '%d before the end' % (len(message[0]) // 4)
@@ -120,12 +131,13 @@ def tell(copies):
 
 def judge_copies(calls):
     """Prints what is wrong and a summary; whether anything is."""
-    accepted = [Copy(c) for c in calls if c.function in ('guc_send', 'guc_receive') and c.answer == '0']
-    sides = [[copy for copy in accepted if copy.call.function == f] for f in ('guc_send', 'guc_receive')]
+    accepted = [Copy(c) for c in calls if c.function in SENDS + RECEIVES and c.answer == '0']
+    sides = [[copy for copy in accepted if copy.call.function in side] for side in (SENDS, RECEIVES)]
     costs = [[cost for copy in side for cost in copy.costs] for side in sides]
     wrong = sum(bool(copy.wrong) for copy in accepted)
     tell(accepted)
     print('copies: %d sends, %d receives, %s; at most %.2f and %.2f instructions a dword in a run of %d or more'
           % (*map(len, sides), '%d not as they must be' % wrong if wrong else 'at most two runs each',
              *(max(side, default=0) for side in costs), LONG))
-    return wrong or not all(costs)
+    called = {copy.call.function for copy in accepted}
+    return wrong or not all(costs) or len(called) < len(SENDS + RECEIVES)

@@ -19,10 +19,14 @@ void lent(const char *word, const void *at, size_t bytes);
 void begin(void);
 void end(uint32_t answer);
 
-/* The calls: sends and receives whole (0) or their looks (1), and the others. */
-void send_calls(int look);
-void receive_calls(int look);
+/* Whole calls, their looks, and whole calls of sides that make no others. */
+enum how { WHOLE, LOOK, TWO };
+
+/* The calls: sends and receives, and the others. */
+void send_calls(enum how how);
+void receive_calls(enum how how);
 void copy_calls(void);
+void half_calls(void);
 void step_calls(void);
 void blob_calls(void);
 

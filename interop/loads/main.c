@@ -44,17 +44,18 @@ void end(uint32_t answer)
 
 int main(int argc, char **argv)
 {
-	int look;
+	int how;
 
 	(void)argv;
 	silent = argc > 1;
 	if (!silent)
 		printf("mark %p\n", (void *)&mark);
-	for (look = 0; look < 2; look++) {
-		send_calls(look);
-		receive_calls(look);
+	for (how = WHOLE; how <= TWO; how++) {
+		send_calls((enum how)how);
+		receive_calls((enum how)how);
 	}
 	copy_calls();
+	half_calls();
 	step_calls();
 	blob_calls();
 	return 0;

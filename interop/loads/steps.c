@@ -1,5 +1,5 @@
 /*
- * Stores, copies and publishes; opening and unpacking.
+ * Single stores and copies, and publishes; openings and unpacking.
  */
 #include "channel.h"
 
@@ -9,20 +9,23 @@ static void send_step(int publish, uint32_t answer, uint32_t stored, const char 
 	uint32_t code, k;
 
 	lay(N - 2, 5, 0);
-	guc_send_look(sender, desc, desc_len, ring, n, msg, msg_len);
+	must(guc_send_look(&sender, &desc, ring, n, msg, msg_len));
 	for (k = 0; k < stored; k++)
-		guc_send_store(sender, desc, desc_len, ring, n);
+		must(guc_send_store(&sender, &desc, ring, n));
 	if (answer == GUC_BAD_STATE)
-		sender[GUC_STATE_COPY + 1] = 0x40000000u;
+		sender.words[AT_COPY + 1] = 0x40000000u;
 	calling(publish ? "guc_send_publish" : "guc_send_store", answer, note);
-	lent_state(sender);
+	lent_state(sender.words);
 	lent_desc();
-	lent_ring(N - 2, 5);
+	if (publish)
+		lent_ring(N - 2, 5);
+	else
+		lent_ring_next(N - 2 + stored);
 	begin();
 	if (publish)
-		code = guc_send_publish(sender, desc, desc_len, ring, n);
+		code = guc_send_publish(&sender, &desc, ring, n);
 	else
-		code = guc_send_store(sender, desc, desc_len, ring, n);
+		code = guc_send_store(&sender, &desc, ring, n);
 	end(code);
 }
 
@@ -34,11 +37,11 @@ static void active_receive(uint32_t answer, uint32_t copied)
 	lay(N - 2, 5, 1);
 	if (answer == GUC_MALFORMED)
 		ring[N - 1] = 0x40000000u;
-	guc_receive_look(receiver, desc, desc_len, ring, n);
+	must(guc_receive_look(&receiver, &desc, ring, n));
 	for (k = 1; k < copied; k++)
-		guc_receive_copy(receiver, desc, desc_len, ring, n);
+		must(guc_receive_copy(&receiver, &desc, ring, n));
 	if (answer == GUC_BAD_STATE)
-		receiver[GUC_STATE_LEN] = 6;
+		receiver.words[AT_LEN] = 6;
 }
 
 static void receive_copy(uint32_t answer, uint32_t copied, const char *note)
@@ -47,11 +50,11 @@ static void receive_copy(uint32_t answer, uint32_t copied, const char *note)
 
 	active_receive(answer, copied);
 	calling("guc_receive_copy", answer, note);
-	lent_state(receiver);
+	lent_state(receiver.words);
 	lent_desc();
 	lent_ring_next(N - 2 + copied);
 	begin();
-	code = guc_receive_copy(receiver, desc, desc_len, ring, n);
+	code = guc_receive_copy(&receiver, &desc, ring, n);
 	end(code);
 }
 
@@ -63,12 +66,12 @@ static void receive_publish(uint32_t answer, uint32_t copied)
 	if (answer == GUC_SHORT_OUTPUT)
 		out_len = 255;
 	calling("guc_receive_publish", answer, "");
-	lent_state(receiver);
+	lent_state(receiver.words);
 	lent_desc();
 	lent_ring(N - 2, 5);
 	lent("out", out, sizeof(out));
 	begin();
-	got = guc_receive_publish(receiver, desc, desc_len, ring, n, out, out_len);
+	got = guc_receive_publish(&receiver, &desc, ring, n, out, out_len);
 	end(got.code);
 }
 
@@ -85,24 +88,37 @@ static void unpack(uint32_t answer, size_t len, uint32_t second, const char *not
 	end(got.code);
 }
 
-static void opening(void)
+static void opening(int two, uint32_t answer)
 {
 	uint32_t code;
 
 	lay(100, 5, 1);
-	calling("guc_open", GUC_OK, "");
-	lent_state(sender);
-	lent_state(receiver);
+	if (answer == GUC_BAD_BUFFER)
+		n = 1000;
+	calling(two ? "guc_whole_open" : "guc_open", answer, "");
+	if (two) {
+		lent_two(&whole_sender.n, &whole_sender.own);
+		lent_two(&whole_receiver.n, &whole_receiver.own);
+	} else {
+		lent_state(sender.words);
+		lent_state(receiver.words);
+	}
 	lent_desc();
 	lent_ring(100, 5);
 	begin();
-	code = guc_open(sender, receiver, desc, desc_len, ring, n);
+	if (two)
+		code = guc_whole_open(&whole_sender, &whole_receiver, &desc, ring, n);
+	else
+		code = guc_open(&sender, &receiver, &desc, ring, n);
 	end(code);
 }
 
 void step_calls(void)
 {
-	opening();
+	opening(0, GUC_OK);
+	opening(0, GUC_BAD_BUFFER);
+	opening(1, GUC_OK);
+	opening(1, GUC_BAD_BUFFER);
 	send_step(0, GUC_OK, 0, "first dword");
 	send_step(0, GUC_OK, 1, "second dword");
 	send_step(0, GUC_OK, 4, "last dword");

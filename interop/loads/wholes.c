@@ -20,41 +20,68 @@ static void spoil(const struct fault *f)
 		*f->count = f->other;
 }
 
-static void send(const struct fault *f, uint32_t own, uint32_t len, int look)
+static uint32_t send_now(enum how how)
 {
+	switch (how) {
+	case LOOK:
+		return guc_send_look(&sender, &desc, ring, n, msg, msg_len);
+	case TWO:
+		return guc_whole_send(&whole_sender, &desc, ring, n, msg, msg_len);
+	default:
+		return guc_send(&sender, &desc, ring, n, msg, msg_len);
+	}
+}
+
+static void send(const struct fault *f, uint32_t own, uint32_t len, enum how how)
+{
+	static const char *const called[3] = { "guc_send", "guc_send_look", "guc_whole_send" };
 	uint32_t code;
 
 	lay(own, len, 0);
 	spoil(f);
-	calling(look ? "guc_send_look" : "guc_send", f->answer, f->note);
-	lent_state(sender);
+	calling(called[how], f->answer, f->note);
+	if (how == TWO)
+		lent_two(&whole_sender.n, &whole_sender.own);
+	else
+		lent_state(sender.words);
 	lent_desc();
 	lent_ring(own, len);
 	lent_message();
 	begin();
-	if (look)
-		code = guc_send_look(sender, desc, desc_len, ring, n, msg, msg_len);
-	else
-		code = guc_send(sender, desc, desc_len, ring, n, msg, msg_len);
+	code = send_now(how);
 	end(code);
 }
 
-static void receive(const struct fault *f, uint32_t own, uint32_t len, int look)
+static uint32_t receive_now(enum how how)
 {
+	switch (how) {
+	case LOOK:
+		return guc_receive_look(&receiver, &desc, ring, n);
+	case TWO:
+		return guc_whole_receive(&whole_receiver, &desc, ring, n, out, out_len).code;
+	default:
+		return guc_receive(&receiver, &desc, ring, n, out, out_len).code;
+	}
+}
+
+static void receive(const struct fault *f, uint32_t own, uint32_t len, enum how how)
+{
+	static const char *const called[3] = { "guc_receive", "guc_receive_look",
+					       "guc_whole_receive" };
 	uint32_t code;
 
 	lay(own, len, 1);
 	spoil(f);
-	calling(look ? "guc_receive_look" : "guc_receive", f->answer, f->note);
-	lent_state(receiver);
+	calling(called[how], f->answer, f->note);
+	if (how == TWO)
+		lent_two(&whole_receiver.n, &whole_receiver.own);
+	else
+		lent_state(receiver.words);
 	lent_desc();
 	lent_ring(own, len);
 	lent("out", out, sizeof(out));
 	begin();
-	if (look)
-		code = guc_receive_look(receiver, desc, desc_len, ring, n);
-	else
-		code = guc_receive(receiver, desc, desc_len, ring, n, out, out_len).code;
+	code = receive_now(how);
 	end(code);
 }
 
@@ -69,43 +96,55 @@ static const uint32_t places[][2] = {
 
 #define PLACES (sizeof(places) / sizeof(places[0]))
 
-void send_calls(int look)
+void send_calls(enum how how)
 {
+	const struct fault state[3][2] = {
+		{ { GUC_BAD_STATE, "other N", sender.words + AT_N, 2048, 0, 0 },
+		  { GUC_BAD_STATE, "last of the copy", sender.words + 259, 1, 0, 0 } },
+		{ { GUC_BAD_STATE, "other N", sender.words + AT_N, 2048, 0, 0 },
+		  { GUC_BAD_STATE, "last of the copy", sender.words + 259, 1, 0, 0 } },
+		{ { GUC_BAD_STATE, "other N", &whole_sender.n, 2048, 0, 0 },
+		  { GUC_BAD_STATE, "own", &whole_sender.own, N, 0, 0 } },
+	};
 	const struct fault refused[] = {
-		{ GUC_BAD_DESCRIPTOR, "", 0, 0, &desc_len, 15 },
 		{ GUC_BAD_BUFFER, "", 0, 0, &n, 1000 },
-		{ GUC_BAD_STATE, "other N", sender + GUC_STATE_N, 2048, 0, 0 },
-		{ GUC_BAD_STATE, "last of the copy", sender + 259, 1, 0, 0 },
 		{ GUC_BAD_MESSAGE, "header", msg, 0x1004, 0, 0 },
 		{ GUC_BAD_MESSAGE, "type", msg + 1, 0x40000000, 0, 0 },
 		{ GUC_BAD_MESSAGE, "length", 0, 0, &msg_len, 6 },
-		{ GUC_BROKEN, "", desc + GUC_DESC_STATUS, 8, 0, 0 },
-		{ GUC_OVERFLOW, "HEAD", desc + GUC_DESC_HEAD, N, 0, 0 },
-		{ GUC_OVERFLOW, "TAIL", desc + GUC_DESC_TAIL, N, 0, 0 },
-		{ GUC_MISMATCH, "", desc + GUC_DESC_TAIL, 40, 0, 0 },
-		{ GUC_FULL, "", desc + GUC_DESC_HEAD, 101, 0, 0 },
+		{ GUC_BROKEN, "", &desc.status, 8, 0, 0 },
+		{ GUC_OVERFLOW, "HEAD", &desc.head, N, 0, 0 },
+		{ GUC_OVERFLOW, "TAIL", &desc.tail, N, 0, 0 },
+		{ GUC_MISMATCH, "", &desc.tail, 40, 0, 0 },
+		{ GUC_FULL, "", &desc.head, 101, 0, 0 },
 	};
 	size_t k;
 
 	for (k = 0; k < PLACES; k++)
-		send(&good, places[k][0], places[k][1], look);
+		send(&good, places[k][0], places[k][1], how);
+	for (k = 0; k < 2; k++)
+		send(&state[how][k], 100, 5, how);
 	for (k = 0; k < sizeof(refused) / sizeof(refused[0]); k++)
-		send(&refused[k], 100, 5, look);
+		send(&refused[k], 100, 5, how);
 }
 
-void receive_calls(int look)
+void receive_calls(enum how how)
 {
+	const struct fault state[3][2] = {
+		{ { GUC_BAD_STATE, "other N", receiver.words + AT_N, 2048, 0, 0 },
+		  { GUC_BAD_STATE, "last of the copy", receiver.words + 259, 1, 0, 0 } },
+		{ { GUC_BAD_STATE, "other N", receiver.words + AT_N, 2048, 0, 0 },
+		  { GUC_BAD_STATE, "last of the copy", receiver.words + 259, 1, 0, 0 } },
+		{ { GUC_BAD_STATE, "other N", &whole_receiver.n, 2048, 0, 0 },
+		  { GUC_BAD_STATE, "own", &whole_receiver.own, N, 0, 0 } },
+	};
 	const struct fault refused[] = {
-		{ GUC_BAD_DESCRIPTOR, "", 0, 0, &desc_len, 15 },
 		{ GUC_BAD_BUFFER, "", 0, 0, &n, 1000 },
-		{ GUC_BAD_STATE, "other N", receiver + GUC_STATE_N, 2048, 0, 0 },
-		{ GUC_BAD_STATE, "last of the copy", receiver + 259, 1, 0, 0 },
-		{ GUC_BROKEN, "", desc + GUC_DESC_STATUS, 8, 0, 0 },
-		{ GUC_OVERFLOW, "HEAD", desc + GUC_DESC_HEAD, N, 0, 0 },
-		{ GUC_OVERFLOW, "TAIL", desc + GUC_DESC_TAIL, N, 0, 0 },
-		{ GUC_MISMATCH, "", desc + GUC_DESC_HEAD, 40, 0, 0 },
-		{ GUC_UNDERFLOW, "", desc + GUC_DESC_TAIL, 104, 0, 0 },
-		{ GUC_EMPTY, "", desc + GUC_DESC_TAIL, 100, 0, 0 },
+		{ GUC_BROKEN, "", &desc.status, 8, 0, 0 },
+		{ GUC_OVERFLOW, "HEAD", &desc.head, N, 0, 0 },
+		{ GUC_OVERFLOW, "TAIL", &desc.tail, N, 0, 0 },
+		{ GUC_MISMATCH, "", &desc.head, 40, 0, 0 },
+		{ GUC_UNDERFLOW, "", &desc.tail, 104, 0, 0 },
+		{ GUC_EMPTY, "", &desc.tail, 100, 0, 0 },
 		{ GUC_SHORT_OUTPUT, "", 0, 0, &out_len, 255 },
 		{ GUC_MALFORMED, "header", ring + 100, 0x1004, 0, 0 },
 		{ GUC_MALFORMED, "type", ring + 101, 0x40000000, 0, 0 },
@@ -113,15 +152,19 @@ void receive_calls(int look)
 	size_t k, count = sizeof(refused) / sizeof(refused[0]);
 
 	for (k = 0; k < PLACES; k++)
-		receive(&good, places[k][0], places[k][1], look);
-	for (k = 0; k < count - (look ? 3 : 0); k++)
-		receive(&refused[k], 100, 5, look);
+		receive(&good, places[k][0], places[k][1], how);
+	for (k = 0; k < 2; k++)
+		receive(&state[how][k], 100, 5, how);
+	for (k = 0; k < count - (how == LOOK ? 3 : 0); k++) /* the last three are no look's */
+		receive(&refused[k], 100, 5, how);
 }
 
 static void both(uint32_t own, uint32_t len)
 {
-	send(&good, own, len, 0);
-	receive(&good, own, len, 0);
+	send(&good, own, len, WHOLE);
+	send(&good, own, len, TWO);
+	receive(&good, own, len, WHOLE);
+	receive(&good, own, len, TWO);
 }
 
 /* Straight, from the ring's start, to its last place but one and its last, and around its end with so many left. */

@@ -18,8 +18,6 @@ pub const TRUNCATED: u32 = 1000;
 /// A boundary, by what is measured.
 #[derive(Clone, Copy, Debug, PartialEq, Eq)]
 pub enum Edge {
-    DescriptorBelow,
-    DescriptorAbove,
     LeastN,
     MostN,
     NextN,
@@ -95,25 +93,43 @@ const CHANNEL: &[Fun] = &[
     Open,
     SendLook,
     SendStore,
+    SendStoreAll,
     SendPublish,
     Send,
     ReceiveLook,
     ReceiveCopy,
+    ReceiveCopyAll,
     ReceivePublish,
     Receive,
+    WholeOpen,
+    WholeSend,
+    WholeReceive,
 ];
-const WITH_STATE: &[Fun] =
-    &[SendLook, SendStore, SendPublish, Send, ReceiveLook, ReceiveCopy, ReceivePublish, Receive];
-const LOOKS: &[Fun] = &[SendLook, Send, ReceiveLook, Receive];
-const SENDS: &[Fun] = &[SendLook, Send];
-const RECEIVES: &[Fun] = &[ReceiveLook, Receive];
+const WITH_STATE: &[Fun] = &[
+    SendLook,
+    SendStore,
+    SendStoreAll,
+    SendPublish,
+    Send,
+    ReceiveLook,
+    ReceiveCopy,
+    ReceiveCopyAll,
+    ReceivePublish,
+    Receive,
+    WholeSend,
+    WholeReceive,
+];
+const LOOKS: &[Fun] = &[SendLook, Send, WholeSend, ReceiveLook, Receive, WholeReceive];
+const SENDS: &[Fun] = &[SendLook, Send, WholeSend];
+const RECEIVES: &[Fun] = &[ReceiveLook, Receive, WholeReceive];
 const MOVES: &[Fun] = &[SendStore, ReceiveCopy];
 const PUBLISHES: &[Fun] = &[SendPublish, ReceivePublish];
-const GOING_ON: &[Fun] = &[SendStore, SendPublish, ReceiveCopy, ReceivePublish];
-const STORING: &[Fun] = &[SendStore, SendPublish];
-const COPYING: &[Fun] = &[ReceiveCopy, ReceivePublish];
-const LAYING: &[Fun] = &[ReceivePublish, Receive];
-const MESSAGES: &[Fun] = &[SendLook, Send, Unpack];
+const GOING_ON: &[Fun] =
+    &[SendStore, SendStoreAll, SendPublish, ReceiveCopy, ReceiveCopyAll, ReceivePublish];
+const STORING: &[Fun] = &[SendStore, SendStoreAll, SendPublish];
+const COPYING: &[Fun] = &[ReceiveCopy, ReceiveCopyAll, ReceivePublish];
+const LAYING: &[Fun] = &[ReceivePublish, Receive, WholeReceive];
+const MESSAGES: &[Fun] = &[SendLook, Send, WholeSend, Unpack];
 const PARTS: &[Fun] = &[CssPart, CssCopy, HucPart, HucCopy];
 const COPIES: &[Fun] = &[CssCopy, CpdCopy, HucCopy];
 const IMAGES: &[Fun] =
@@ -135,9 +151,7 @@ const fn row(
 
 /// All of them, in the order of `Edge`.
 #[rustfmt::skip]
-pub const BOUNDARIES: [Boundary; 54] = [
-    row(Edge::DescriptorBelow, "descriptor's dwords", ["15", "16"], (1, BELOW), CHANNEL),
-    row(Edge::DescriptorAbove, "descriptor's dwords", ["16", "17"], (1, ABOVE), CHANNEL),
+pub const BOUNDARIES: [Boundary; 52] = [
     row(Edge::LeastN, "N", ["1,023", "1,024"], (2, BELOW), CHANNEL),
     row(Edge::MostN, "N", ["16,384", "16,385"], (2, ABOVE), CHANNEL),
     row(Edge::NextN, "N", ["16,384", "17,408"], (2, ABOVE), CHANNEL),

@@ -5,9 +5,9 @@ use crate::edges::directories::{of_directory, of_huc, of_manifest};
 use crate::edges::images::{of_image, of_room, of_which};
 use crate::edges::names::Sought;
 use crate::edges::{Stands, TRUNCATED};
-use crate::functions::Fun;
+use crate::functions::{Fun, Slice};
 use crate::guc::constants::*;
-use crate::guc::{self, Copied, Css, Manifest, Part, Version};
+use crate::guc::{self, Copied, Css, In, Manifest, Out, Part, Version};
 use crate::lent::{bytes, Lent};
 use crate::same::{same, same_lent, Outcome};
 use crate::tally::Tally;
@@ -18,10 +18,10 @@ use model::generate::{cpd_case, css_blob, Rng};
 /// The four functions that judge one image, of a blob or of its `huc_fw`.
 struct Family {
     funs: [Fun; 4],
-    answer: fn(&[u8]) -> Css,
-    part: fn(&[u8], u32) -> Part,
-    copy: fn(&[u8], u32, &mut [u8]) -> Copied,
-    version: fn(&[u8]) -> Version,
+    answer: fn(In<u8>) -> Css,
+    part: fn(In<u8>, u32) -> Part,
+    copy: fn(In<u8>, u32, Out<u8>) -> Copied,
+    version: fn(In<u8>) -> Version,
 }
 
 const CSS: Family = Family {
@@ -90,6 +90,13 @@ fn mark_room(tally: &mut Tally, code: u32, len: usize, room: usize) {
     }
 }
 
+/// Counts a slice that these functions were lent, where it was NULL.
+fn count_null(tally: &mut Tally, lent: &Lent<u8>, funs: &[Fun], slice: Slice) {
+    if lent.null() {
+        funs.iter().for_each(|fun| tally.null(*fun, slice));
+    }
+}
+
 /// A call that copies a part: where the model places it in the blob, and where
 /// the blob stands.
 struct Copying<'a> {
@@ -113,13 +120,13 @@ fn check_copy(
     rng: &mut Rng,
     tally: &mut Tally,
     of: Copying,
-    copy: impl Fn(&mut [u8]) -> Copied,
+    copy: impl Fn(Out<u8>) -> Copied,
 ) -> Outcome {
     let Copying { fun, blob, part, stands } = of;
     let room = some_room(rng, part.len);
     let mut want = rng.bytes(room);
     let mut dst = bytes(rng, &want);
-    let got = copy(dst.get_mut());
+    let got = copy(dst.lend_mut());
     let expected = match part {
         Part { code: 0, truncated, len, .. } if len > room => {
             Copied { code: GUC_NO_ROOM, truncated, len }
@@ -135,6 +142,7 @@ fn check_copy(
     tally.sides(fun, shown(got.code, got.truncated), stands)?;
     tally.answer_at(fun, got.code, &of_room(part.len, room))?;
     tally.mark("call with a slice against a forbidden page", dst.paged() as u64);
+    count_null(tally, &dst, &[fun], Slice::Destination);
     mark_room(tally, got.code, part.len, room);
     Ok(())
 }
@@ -151,18 +159,19 @@ struct Told {
 fn check_component(
     rng: &mut Rng,
     tally: &mut Tally,
-    (family, blob): (&Family, &[u8]),
+    (family, lent): (&Family, &Lent<u8>),
     (told, which): (&Told, u32),
 ) -> Outcome {
+    let blob = lent.get();
     let [_, part_fun, copy_fun, _] = family.funs;
     let none = Stands::default();
     let stands = if which > GUC_PART_EXPONENT { &none } else { &told.stands };
     let expected = expected_part(&told.image, which);
-    let part = (family.part)(blob, which);
+    let part = (family.part)(lent.lend(), which);
     same("part", part, expected)?;
     tally.sides(part_fun, shown(part.code, part.truncated), stands)?;
     tally.answer_at(part_fun, part.code, &of_which(which))?;
-    let copy = |dst: &mut [u8]| (family.copy)(blob, which, dst);
+    let copy = |dst: Out<u8>| (family.copy)(lent.lend(), which, dst);
     check_copy(rng, tally, Copying { fun: copy_fun, blob, part: expected, stands }, copy)?;
     tally.sides(copy_fun, part.code, &of_which(which))
 }
@@ -175,24 +184,24 @@ fn check_family(
     told: &Told,
 ) -> Outcome {
     let Told { image, version, stands } = told;
-    let blob = lent.get();
     let [answer_fun, .., version_fun] = family.funs;
-    let answer = (family.answer)(blob);
+    let answer = (family.answer)(lent.lend());
     same("answer", answer, Css { code: image.code, truncated: image.truncated as u32 })?;
     tally.sides(answer_fun, shown(answer.code, answer.truncated), stands)?;
     tally.answer(answer_fun, answer.code);
-    let got = (family.version)(blob);
+    let got = (family.version)(lent.lend());
     same("version", got, *version)?;
     tally.answer_at(version_fun, got.code, stands)?;
     let other = rng.pick(&[4, 4, 5, 7, 255, 256, 1 << 16, 1 << 31, u32::MAX, u32::MAX - 3]);
     for which in [0, 1, 2, 3, other] {
-        check_component(rng, tally, (family, blob), (told, which))
+        check_component(rng, tally, (family, lent), (told, which))
             .map_err(|problem| format!("which {which}: {problem}"))?;
     }
     if image.code == 0 {
         tally.mark(if image.truncated { "image truncated" } else { "image full" }, 1);
     }
     tally.input(stands);
+    count_null(tally, lent, &family.funs, Slice::Blob);
     Ok(())
 }
 
@@ -210,16 +219,25 @@ fn check_seek(rng: &mut Rng, tally: &mut Tally, lent: &Lent<u8>, name: &[u8]) ->
     let (blob, lent_name) = (lent.get(), bytes(rng, name));
     let (code, start, end) = cpd::seek(blob, name);
     let expected = Part { code, truncated: 0, start, len: end - start };
-    let part = guc::cpd_part(blob, lent_name.get());
+    let part = guc::cpd_part(lent.lend(), lent_name.lend());
     same("part", part, expected)?;
+    // Slices that are only read may overlap.
+    let within = blob.windows(name.len().max(1)).position(|bytes| bytes == name);
+    if let Some(at) = within.filter(|_| rng.chance(1, 4)) {
+        let part = guc::cpd_part(lent.lend(), Some(&blob[at..at + name.len()]));
+        same("part, the name lent where it lies in the blob", part, expected)?;
+        tally.mark("name lent where it lies in the blob", 1);
+    }
     let (stands, _) = of_directory(blob, name, Sought::Any);
     tally.answer_at(Fun::CpdPart, code, &stands)?;
     tally.input(&stands);
     let empty_at_end = code == 0 && start == blob.len();
     tally.mark("part of 0 bytes at the blob's end", empty_at_end as u64);
-    let copy = |dst: &mut [u8]| guc::cpd_copy(blob, lent_name.get(), dst);
+    let copy = |dst: Out<u8>| guc::cpd_copy(lent.lend(), lent_name.lend(), dst);
     let of = Copying { fun: Fun::CpdCopy, blob, part: expected, stands: &stands };
     check_copy(rng, tally, of, copy)?;
+    count_null(tally, lent, &[Fun::CpdPart, Fun::CpdCopy], Slice::Blob);
+    count_null(tally, &lent_name, &[Fun::CpdPart, Fun::CpdCopy], Slice::Name);
     same_lent("name", &lent_name, name)
 }
 
@@ -228,7 +246,8 @@ pub fn check_directory(rng: &mut Rng, tally: &mut Tally, blob: &[u8], name: &[u8
     let lent = bytes(rng, blob);
     check_seek(rng, tally, &lent, name)
         .map_err(|problem| format!("CPD name {}: {problem}", name.escape_ascii()))?;
-    let manifest = guc::manifest_version(lent.get());
+    let manifest = guc::manifest_version(lent.lend());
+    count_null(tally, &lent, &[Fun::ManifestVersion], Slice::Blob);
     same("manifest", manifest, expected_manifest(cpd::manifest_version(blob)))?;
     let stands = of_manifest(blob);
     tally.answer_at(Fun::ManifestVersion, manifest.code, &stands)?;

@@ -1,17 +1,24 @@
-//! The archive's functions and the numbers that each can answer.
+//! The archive's functions, the numbers that each can answer and the slices that
+//! it takes.
 
 /// The archive's functions.
 #[derive(Clone, Copy, Debug, PartialEq, Eq)]
 pub enum Fun {
+    Interface,
     Open,
     SendLook,
     SendStore,
+    SendStoreAll,
     SendPublish,
     Send,
     ReceiveLook,
     ReceiveCopy,
+    ReceiveCopyAll,
     ReceivePublish,
     Receive,
+    WholeOpen,
+    WholeSend,
+    WholeReceive,
     Pack,
     Unpack,
     CssAnswer,
@@ -27,17 +34,24 @@ pub enum Fun {
     HucVersion,
 }
 
-/// Each function with its name and the numbers it can answer.
-pub const FUNCTIONS: [(Fun, &str, &[u32]); 22] = [
-    (Fun::Open, "guc_open", &[0, 1, 2]),
-    (Fun::SendLook, "guc_send_look", &[0, 1, 2, 3, 4, 6, 7, 8, 10]),
-    (Fun::SendStore, "guc_send_store", &[0, 1, 2, 3, 12]),
-    (Fun::SendPublish, "guc_send_publish", &[0, 1, 2, 3, 12]),
-    (Fun::Send, "guc_send", &[0, 1, 2, 3, 4, 6, 7, 8, 10]),
-    (Fun::ReceiveLook, "guc_receive_look", &[0, 1, 2, 3, 6, 7, 8, 9, 11]),
-    (Fun::ReceiveCopy, "guc_receive_copy", &[0, 1, 2, 3, 12]),
-    (Fun::ReceivePublish, "guc_receive_publish", &[0, 1, 2, 3, 5, 12, 13]),
-    (Fun::Receive, "guc_receive", &[0, 1, 2, 3, 5, 6, 7, 8, 9, 11, 13]),
+/// Each function with its name and the numbers it can answer. Number 1 is for a
+/// descriptor that C can't lend. The interface's version is no number.
+pub const FUNCTIONS: [(Fun, &str, &[u32]); 28] = [
+    (Fun::Interface, "guc_interface_2", &[]),
+    (Fun::Open, "guc_open", &[0, 2]),
+    (Fun::SendLook, "guc_send_look", &[0, 2, 3, 4, 6, 7, 8, 10]),
+    (Fun::SendStore, "guc_send_store", &[0, 2, 3, 12]),
+    (Fun::SendStoreAll, "guc_send_store_all", &[0, 2, 3]),
+    (Fun::SendPublish, "guc_send_publish", &[0, 2, 3, 12]),
+    (Fun::Send, "guc_send", &[0, 2, 3, 4, 6, 7, 8, 10]),
+    (Fun::ReceiveLook, "guc_receive_look", &[0, 2, 3, 6, 7, 8, 9, 11]),
+    (Fun::ReceiveCopy, "guc_receive_copy", &[0, 2, 3, 12]),
+    (Fun::ReceiveCopyAll, "guc_receive_copy_all", &[0, 2, 3]),
+    (Fun::ReceivePublish, "guc_receive_publish", &[0, 2, 3, 5, 12, 13]),
+    (Fun::Receive, "guc_receive", &[0, 2, 3, 5, 6, 7, 8, 9, 11, 13]),
+    (Fun::WholeOpen, "guc_whole_open", &[0, 2]),
+    (Fun::WholeSend, "guc_whole_send", &[0, 2, 3, 4, 6, 7, 8, 10]),
+    (Fun::WholeReceive, "guc_whole_receive", &[0, 2, 3, 5, 6, 7, 8, 9, 11, 13]),
     (Fun::Pack, "guc_pack", &[0, 14, 101]),
     (Fun::Unpack, "guc_unpack", &[0, 4]),
     (Fun::CssAnswer, "guc_css_answer", &[0, 15, 16, 17]),
@@ -51,6 +65,37 @@ pub const FUNCTIONS: [(Fun, &str, &[u32]); 22] = [
     (Fun::HucPart, "guc_huc_part", &[0, 15, 16, 17, 18, 19, 20, 21, 22, 101]),
     (Fun::HucCopy, "guc_huc_copy", &[0, 15, 16, 17, 18, 19, 20, 21, 22, 100, 101]),
     (Fun::HucVersion, "guc_huc_version", &[0, 15, 16, 17, 18, 19, 20, 21, 22]),
+];
+
+/// What a function is lent by pointer and count.
+#[derive(Clone, Copy, Debug, PartialEq, Eq)]
+pub enum Slice {
+    Ring,
+    Message,
+    Output,
+    Blob,
+    Name,
+    Destination,
+}
+
+use Fun::*;
+use Slice::*;
+
+/// Every slice of every function: each must once be NULL with count 0.
+#[rustfmt::skip]
+pub const SLICES: [(Fun, Slice); 37] = [
+    (Open, Ring), (WholeOpen, Ring),
+    (SendLook, Ring), (SendLook, Message),
+    (SendStore, Ring), (SendStoreAll, Ring), (SendPublish, Ring),
+    (Send, Ring), (Send, Message), (WholeSend, Ring), (WholeSend, Message),
+    (ReceiveLook, Ring), (ReceiveCopy, Ring), (ReceiveCopyAll, Ring),
+    (ReceivePublish, Ring), (ReceivePublish, Output),
+    (Receive, Ring), (Receive, Output), (WholeReceive, Ring), (WholeReceive, Output),
+    (Unpack, Message),
+    (CssAnswer, Blob), (CssPart, Blob), (CssCopy, Blob), (CssCopy, Destination), (CssVersion, Blob),
+    (CpdPart, Blob), (CpdPart, Name), (CpdCopy, Blob), (CpdCopy, Name), (CpdCopy, Destination),
+    (ManifestVersion, Blob),
+    (HucAnswer, Blob), (HucPart, Blob), (HucCopy, Blob), (HucCopy, Destination), (HucVersion, Blob),
 ];
 
 /// The numbers 0 to 22, 100 and 101, each with a place.

@@ -2,7 +2,7 @@
 //! between guards, at varying alignment: a write outside is seen, and so is code
 //! that counts on more than the element's own alignment. Now and then it lies
 //! against a page that may not be touched, with guards on its other side; there
-//! a read outside is seen as well.
+//! a read outside is seen as well. A slice of nothing is NULL half of the time.
 
 use crate::guc::pages::Pages;
 use model::generate::Rng;
@@ -14,6 +14,7 @@ pub struct Lent<T> {
     front: usize,
     count: usize,
     start: u32,
+    null: bool,
 }
 
 #[derive(Debug)]
@@ -69,17 +70,18 @@ fn between_guards<T: Guard>(
 
 impl<T: Guard> Lent<T> {
     pub fn new(rng: &mut Rng, contents: &[T]) -> Lent<T> {
+        let (count, null) = (contents.len(), contents.is_empty() && rng.chance(1, 2));
         if rng.chance(1, PAGED) {
             let at_end = rng.chance(3, 4);
             let (front, back) = if at_end { (SIDE, 0) } else { (0, SIDE) };
             let (all, start) = between_guards(rng, contents, front, back);
             if let Some(pages) = Pages::new(&all, at_end) {
-                return Lent { all: Memory::Paged(pages), front, count: contents.len(), start };
+                return Lent { all: Memory::Paged(pages), front, count, start, null };
             }
         }
         let front = SIDE + rng.between(0, SHIFT) as usize;
         let (all, start) = between_guards(rng, contents, front, SIDE);
-        Lent { all: Memory::Heap(all), front, count: contents.len(), start }
+        Lent { all: Memory::Heap(all), front, count, start, null }
     }
 
     fn all(&self) -> &[T] {
@@ -103,6 +105,23 @@ impl<T: Guard> Lent<T> {
     pub fn get_mut(&mut self) -> &mut [T] {
         let (from, to) = (self.front, self.front + self.count);
         &mut self.all_mut()[from..to]
+    }
+
+    /// As it is lent: `None` for NULL.
+    pub fn lend(&self) -> Option<&[T]> {
+        (!self.null).then(|| self.get())
+    }
+
+    pub fn lend_mut(&mut self) -> Option<&mut [T]> {
+        if self.null {
+            return None;
+        }
+        Some(self.get_mut())
+    }
+
+    /// Whether it is lent as NULL.
+    pub fn null(&self) -> bool {
+        self.null
     }
 
     /// Whether it lies against a page that may not be touched.

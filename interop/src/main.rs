@@ -36,7 +36,9 @@ fn parse(args: &[String], at: usize, otherwise: u64) -> Result<u64, String> {
 fn report(difference: &Difference, seed: u64) {
     let Difference { group, case, problem } = difference;
     println!("DIFFERENCE in {group}, case {case}, seed {seed}: {problem}");
-    println!("  again: interop/run one {group} {case} {seed}");
+    let archive =
+        std::env::var("GUC_ARCHIVE").map_or(String::new(), |file| format!("--archive {file} "));
+    println!("  again: interop/run {archive}one {group} {case} {seed}");
 }
 
 fn all(cases: u64, seed: u64) -> ExitCode {

@@ -1,7 +1,7 @@
 //! Packing and unpacking, and that both ways agree.
 
 use crate::edges::messages::{of_fields, of_message};
-use crate::functions::Fun;
+use crate::functions::{Fun, Slice};
 use crate::guc::constants::*;
 use crate::guc::{self, Packed, Unpacked};
 use crate::lent::words;
@@ -57,12 +57,15 @@ fn some_fields(rng: &mut Rng) -> Decoded {
 
 fn check_unpack(rng: &mut Rng, tally: &mut Tally, dwords: &[u32]) -> Result<Unpacked, String> {
     let lent = words(rng, dwords);
-    let got = guc::unpack(lent.get());
+    let got = guc::unpack(lent.lend());
     same("unpack", got, expected_unpack(dwords))?;
     same_lent("message", &lent, dwords)?;
     let (stands, _) = of_message(dwords);
     tally.answer_at(Fun::Unpack, got.code, &stands)?;
     tally.input(&stands);
+    if lent.null() {
+        tally.null(Fun::Unpack, Slice::Message);
+    }
     if got.code == 0 {
         tally.accepted(Set::Unpacked, got.kind)?;
     }

@@ -28,16 +28,17 @@ macro_rules! group {
     };
 }
 
-pub const GROUPS: [Group; 10] = [
+pub const GROUPS: [Group; 11] = [
     group!("calls", 235_000, calls::check, "one channel call"),
     group!("lists", 10_000, lists::check, "a list of operations, both sides"),
     group!("tampered", 10_000, lists::check_tampered, "a list with foreign writes"),
-    group!("packing", 230_000, messages::check_packing, "fields packed, unpacked"),
+    group!("odd", 10_000, lists::check_odd, "a list on sides of any words"),
+    group!("packing", 220_040, messages::check_packing, "fields packed, unpacked"),
     group!("unpacking", 135_000, messages::check_unpacking, "a message unpacked, packed"),
     group!("css", 200_000, firmware::check_css, "an image, all its functions"),
     group!("cpd", 179_850, firmware::check_cpd, "a directory, all its functions"),
     group!("big", 150, big::check, "a blob up to 19 MiB"),
-    group!("channels", 100, sweeps::check_channel, "all sweeps of the channel"),
+    group!("channels", 60, sweeps::check_channel, "all sweeps of the channel"),
     group!("firmwares", 100, sweeps::check_firmware, "all sweeps of firmware"),
 ];
 

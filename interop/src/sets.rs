@@ -1,7 +1,9 @@
 //! Sets of which every member must come up in a run.
 
+use crate::edges::calls::TWO_OWNS;
 use crate::edges::names::{ONCE, SOUGHT, TWICE};
-use crate::edges::places::{place_name, PLACES};
+use crate::edges::places::{place_name, places, COPIED, STORED, WHOLE};
+use crate::functions::SLICES;
 use crate::guc::constants::*;
 
 #[derive(Clone, Copy, Debug, PartialEq, Eq)]
@@ -26,20 +28,42 @@ pub enum Set {
     // Of accepted whole calls.
     SendPlace,
     ReceivePlace,
+    WholeSendPlace,
+    WholeReceivePlace,
     SendLeft,
     ReceiveLeft,
+    WholeSendLeft,
+    WholeReceiveLeft,
     SendAround,
     ReceiveAround,
+    WholeSendAround,
+    WholeReceiveAround,
+    // Of calls that make all moves that are left.
+    StoreLeft,
+    CopyLeft,
+    StorePlace,
+    CopyPlace,
+    // Of sides of two words, each for the sender and the receiver.
+    TwoN,
+    TwoOwn,
+    ListSides,
+    Null,
     // From here on the members are `TYPES`, of accepted messages.
     Packed,
     Unpacked,
     SendLook,
     Send,
+    WholeSend,
     ReceivePublish,
     Receive,
+    WholeReceive,
     ListSent,
     ListReceived,
 }
+
+/// Kinds of the sender and the receiver in lists.
+const SIDES: [&str; 4] =
+    ["both of 260 words", "receiver of two", "sender of two", "both of two words"];
 
 /// The types of the table by name. Not the model's list: that could lack one.
 pub const TYPES: [(u32, &str); 7] = [
@@ -66,7 +90,13 @@ impl Set {
         match self {
             Set::Once => of(&ONCE),
             Set::Twice => of(&TWICE),
-            Set::SendPlace | Set::ReceivePlace => place_name(index),
+            Set::SendPlace | Set::ReceivePlace => place_name(&WHOLE, index),
+            Set::WholeSendPlace | Set::WholeReceivePlace => place_name(&WHOLE, index),
+            Set::StorePlace => place_name(&STORED, index),
+            Set::CopyPlace => place_name(&COPIED, index),
+            Set::TwoOwn => TWO_OWNS[index % TWO_OWNS.len()].to_string(),
+            Set::ListSides => SIDES[index].to_string(),
+            Set::Null => format!("{:?} of {:?}", SLICES[index].1, SLICES[index].0),
             _ if self.of_types() => TYPES[index].1.to_string(),
             _ => index.to_string(),
         }
@@ -74,7 +104,7 @@ impl Set {
 }
 
 /// Each with its name and how many members it has, in the order of `Set`.
-pub const SETS: [(Set, &str, usize); 30] = [
+pub const SETS: [(Set, &str, usize); 46] = [
     (Set::HeaderLength, "header length H, 0 to 255", 256),
     (Set::NameBit, "bit of an entry's name that alone is not the name sought", 96),
     (Set::ManifestBit, "bit of an entry's name that alone is not HUCP.man", 96),
@@ -91,18 +121,34 @@ pub const SETS: [(Set, &str, usize); 30] = [
     (Set::Kind, "HXG type, 0 to 7", 8),
     (Set::SendLength, "L of a send that is all that is free (less 2)", 255),
     (Set::ReceiveLength, "L of a receive that is all that is used (less 1)", 256),
-    (Set::SendPlace, "L of guc_send, and where the buffer's end falls", PLACES),
-    (Set::ReceivePlace, "L of guc_receive, and where the buffer's end falls", PLACES),
+    (Set::SendPlace, "L of guc_send, and where the buffer's end falls", places(&WHOLE)),
+    (Set::ReceivePlace, "L of guc_receive, and where the buffer's end falls", places(&WHOLE)),
+    (Set::WholeSendPlace, "the same of guc_whole_send", places(&WHOLE)),
+    (Set::WholeReceivePlace, "the same of guc_whole_receive", places(&WHOLE)),
     (Set::SendLeft, "places to the end, guc_send of 256, 1 to 256 or more (less 1)", 257),
     (Set::ReceiveLeft, "places to the end, guc_receive of 256, 1 to 256 or more (less 1)", 257),
+    (Set::WholeSendLeft, "the same of guc_whole_send", 257),
+    (Set::WholeReceiveLeft, "the same of guc_whole_receive", 257),
     (Set::SendAround, "L of guc_send around the end (less 2)", 255),
     (Set::ReceiveAround, "L of guc_receive around the end (less 2)", 255),
+    (Set::WholeSendAround, "the same of guc_whole_send", 255),
+    (Set::WholeReceiveAround, "the same of guc_whole_receive", 255),
+    (Set::StoreLeft, "dwords left for guc_send_store_all, 0 to 256", 257),
+    (Set::CopyLeft, "dwords left for guc_receive_copy_all, 0 to 255", 256),
+    (Set::StorePlace, "dwords left to store, and where the buffer's end falls", places(&STORED)),
+    (Set::CopyPlace, "dwords left to copy, and where the buffer's end falls", places(&COPIED)),
+    (Set::TwoN, "bit of n that alone is another, sides of two words", 2 * 32),
+    (Set::TwoOwn, "own offsets of sides of two words", 2 * TWO_OWNS.len()),
+    (Set::ListSides, "kinds of sides in lists", SIDES.len()),
+    (Set::Null, "slices of functions that were NULL with count 0", SLICES.len()),
     (Set::Packed, "types packed by guc_pack", TYPES.len()),
     (Set::Unpacked, "types unpacked by guc_unpack", TYPES.len()),
     (Set::SendLook, "types taken by guc_send_look", TYPES.len()),
     (Set::Send, "types taken by guc_send", TYPES.len()),
+    (Set::WholeSend, "types taken by guc_whole_send", TYPES.len()),
     (Set::ReceivePublish, "types handed out by guc_receive_publish", TYPES.len()),
     (Set::Receive, "types handed out by guc_receive", TYPES.len()),
+    (Set::WholeReceive, "types handed out by guc_whole_receive", TYPES.len()),
     (Set::ListSent, "types taken in lists", TYPES.len()),
     (Set::ListReceived, "types handed out in lists", TYPES.len()),
 ];

@@ -3,8 +3,9 @@
 
 use crate::calls::check_case;
 use crate::firmware::{check_css_blob, check_directory};
+use crate::guc::{self, constants::GUC_INTERFACE};
 use crate::messages::{check_fields, check_message};
-use crate::same::Outcome;
+use crate::same::{same, Outcome};
 use crate::tally::Tally;
 use model::generate::{self, CpdCase, Rng};
 use model::run::Case;
@@ -13,13 +14,17 @@ use model::run::Case;
 type Sweep<T> = fn(&mut Rng) -> Vec<T>;
 
 /// Calls of the channel.
-const CALLS: [Sweep<Case>; 6] = [
+const CALLS: [Sweep<Case>; 10] = [
     generate::every_message_length,
     generate::every_type,
     generate::every_size,
     generate::every_descriptor,
     generate::every_state,
     generate::every_place,
+    generate::every_empty,
+    generate::every_two,
+    generate::every_left,
+    generate::every_left_place,
 ];
 
 /// CSS images.
@@ -42,8 +47,10 @@ const DIRECTORIES: [Sweep<CpdCase>; 12] = [
     generate::every_uncounted_name,
 ];
 
-/// All sweeps of the channel and of messages.
+/// All sweeps of the channel and of messages, and the interface's version.
 pub fn check_channel(rng: &mut Rng, tally: &mut Tally) -> Outcome {
+    same("version of the interface", guc::interface(), GUC_INTERFACE)?;
+    tally.mark("guc_interface_2 answered 2", 1);
     for sweep in CALLS {
         for case in sweep(rng) {
             check_case(rng, tally, case)?;
@@ -60,6 +67,8 @@ pub fn check_channel(rng: &mut Rng, tally: &mut Tally) -> Outcome {
 
 /// All sweeps of firmware; an image is also judged as the part of a directory.
 pub fn check_firmware(rng: &mut Rng, tally: &mut Tally) -> Outcome {
+    check_css_blob(rng, tally, &[])?;
+    check_directory(rng, tally, &[], b"huc_fw")?;
     for sweep in IMAGES {
         for image in sweep(rng) {
             check_css_blob(rng, tally, &image)?;

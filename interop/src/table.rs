@@ -9,7 +9,7 @@ use std::fmt::Write;
 /// What each number means, in a few words.
 const MEANINGS: [&str; NUMBERS] = [
     "accepted",
-    "descriptor not 16 dwords",
+    "descriptor not 16 dwords, which C can't lend",
     "N not allowed",
     "state doesn't fit",
     "message malformed",

@@ -2,18 +2,20 @@
 //! side of its boundaries, members of sets, and marks for all else.
 
 use crate::edges::{Edge, Stands, BOUNDARIES};
-use crate::functions::{place, Fun, FUNCTIONS, NUMBERS};
+use crate::functions::{place, Fun, Slice, FUNCTIONS, NUMBERS, SLICES};
 use crate::same::Outcome;
 use crate::sets::{Members, Set, TYPES};
 use std::collections::BTreeMap;
 
 /// Things that must come up beside the numbers.
-pub const MARKS: [&str; 29] = [
+pub const MARKS: [&str; 32] = [
+    "guc_interface_2 answered 2",
     "output longer than 256: rest unchanged",
     "message across the ring's end",
     "ring full after an operation",
     "operations in lists",
     "operations in tampered lists",
+    "operations on sides of any words",
     "tampered between operations",
     "packed, then unpacked",
     "unpacked, then packed",
@@ -22,6 +24,7 @@ pub const MARKS: [&str; 29] = [
     "room longer: rest unchanged",
     "refused copy: destination unchanged",
     "part of 0 bytes at the blob's end",
+    "name lent where it lies in the blob",
     "part past 16 MiB",
     "second entry behind 65,536 others",
     "call with a slice against a forbidden page",
@@ -106,6 +109,12 @@ impl Tally {
         let place = place.ok_or_else(|| format!("{set:?}: type {kind} accepted"))?;
         self.members.count(set, place);
         Ok(())
+    }
+
+    /// Counts a slice of this function that was lent as NULL.
+    pub fn null(&mut self, fun: Fun, slice: Slice) {
+        let place = SLICES.iter().position(|one| *one == (fun, slice));
+        self.members.count(Set::Null, place.expect("the function takes the slice"));
     }
 
     pub fn mark(&mut self, name: &'static str, times: u64) {

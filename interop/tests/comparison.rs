@@ -10,17 +10,27 @@ use interop::tally::Tally;
 use model::generate::Rng;
 
 /// The functions that take or hand out messages, with the sets of their types.
-const WITH_TYPES: [(Fun, Set); 6] = [
+const WITH_TYPES: [(Fun, Set); 8] = [
     (Fun::Pack, Set::Packed),
     (Fun::Unpack, Set::Unpacked),
     (Fun::SendLook, Set::SendLook),
     (Fun::Send, Set::Send),
+    (Fun::WholeSend, Set::WholeSend),
     (Fun::ReceivePublish, Set::ReceivePublish),
     (Fun::Receive, Set::Receive),
+    (Fun::WholeReceive, Set::WholeReceive),
 ];
 
-/// The whole calls, with the sets of how their messages lie against the end.
-const WITH_LAYS: [(Fun, Set); 2] = [(Fun::Send, Set::SendPlace), (Fun::Receive, Set::ReceivePlace)];
+/// The calls that move many dwords, with sets of how many there are or how they lie
+/// against the end.
+const WITH_LAYS: [(Fun, Set); 6] = [
+    (Fun::Send, Set::SendPlace),
+    (Fun::Receive, Set::ReceivePlace),
+    (Fun::WholeSend, Set::WholeSendPlace),
+    (Fun::WholeReceive, Set::WholeReceivePlace),
+    (Fun::SendStoreAll, Set::StoreLeft),
+    (Fun::ReceiveCopyAll, Set::CopyLeft),
+];
 
 #[test]
 fn every_group_for_a_moment() {
@@ -59,8 +69,11 @@ fn guards_and_slices() {
     assert!(same_lent("words", &lent, &[1, 2, 3]).is_ok());
     assert!(same_lent("words", &lent, &[1, 2, 4]).is_err());
     assert!(same_lent("words", &lent, &[1, 2]).is_err());
-    let empty = bytes(&mut rng, &[]);
-    assert!(empty.get().is_empty() && empty.intact());
+    assert!(lent.lend() == Some(&[1, 2, 3]) && !lent.null());
+    let empties: Vec<_> = (0..100).map(|_| bytes(&mut rng, &[])).collect();
+    assert!(empties.iter().all(|empty| empty.get().is_empty() && empty.intact()));
+    let nulls = empties.iter().filter(|empty| empty.null());
+    assert!((20..80).contains(&nulls.clone().count()) && nulls.clone().all(|n| n.lend().is_none()));
     assert!(same("number", 3, 3).is_ok() && same("number", 3, 4).is_err());
     assert!(same_slice("words", &[0u32], &[1]).unwrap_err().contains("[0]"));
 }

@@ -5,13 +5,14 @@ use interop::edges::directories::{of_directory, of_manifest};
 use interop::edges::images::of_image;
 use interop::edges::messages::of_message;
 use interop::edges::names::{Sought, ONCE, TWICE};
-use interop::edges::places::{of_place, place_name, PLACES};
+use interop::edges::places::{of_left, of_place, place_name, places, COPIED, STORED, WHOLE};
 use interop::edges::{Edge, Stands, BOUNDARIES};
-use interop::functions::{Fun, FUNCTIONS};
+use interop::functions::{Fun, FUNCTIONS, SLICES};
 use interop::guc::constants::*;
+use interop::guc::{Descriptor, Dwords, Receiver, Sender, WholeReceiver, WholeSender};
 use interop::sets::{Set, SETS, TYPES};
 use interop::tally::Tally;
-use model::channel::{HEAD, STATUS, TAIL};
+use model::channel::{allowed, HEAD, STATUS, TAIL};
 use model::message::{known, MALFORMED, TOO_WIDE};
 use model::run::Op;
 
@@ -26,17 +27,51 @@ fn tables_are_in_order() {
 
 #[test]
 fn constants_are_the_papers() {
-    let places = [GUC_DESC_HEAD, GUC_DESC_TAIL, GUC_DESC_STATUS].map(|place| place as usize);
-    assert_eq!(places, [HEAD, TAIL, STATUS]);
     assert_eq!((GUC_BAD_MESSAGE, GUC_BAD_FIELD), (MALFORMED, TOO_WIDE));
     let types = TYPES.map(|(kind, _)| kind);
     assert_eq!(types, [0, 1, 2, 3, 5, 6, 7]);
     assert!((0..32).all(|kind| known(kind) == types.contains(&kind)) && !known(4));
-    assert_eq!(GUC_STATE_WORDS, GUC_STATE_COPY + GUC_MESSAGE_DWORDS);
+    assert_eq!(GUC_STATE_WORDS, 4 + GUC_MESSAGE_DWORDS);
+    assert!((0..40_000).all(|n| allowed(n) == (n % 1024 == 0 && (1024..=16384).contains(&n))));
+    assert_eq!((GUC_RING_UNIT, GUC_RING_MIN, GUC_RING_MAX), (1024, 1024, 16384));
     let mut names: Vec<&str> = CONSTANTS.iter().map(|(name, _)| *name).collect();
     names.sort_unstable();
     names.dedup();
     assert_eq!(names.len(), CONSTANTS.len());
+}
+
+/// The typed descriptor's fields are the paper's places; sides are as long as the
+/// header says.
+#[test]
+fn types_are_their_dwords() {
+    let mut dwords: Vec<u32> = (100..116).collect();
+    let desc = Descriptor::over(&mut dwords);
+    let fields = [desc.head, desc.tail, desc.status, desc.reserved[0], desc.reserved[12]];
+    assert_eq!(fields, [HEAD, TAIL, STATUS, 3, 15].map(|at| 100 + at as u32));
+    assert_eq!((Descriptor::COUNT, Sender::COUNT, Receiver::COUNT), (16, 260, 260));
+    assert_eq!((WholeSender::COUNT, WholeReceiver::COUNT), (2, 2));
+    let mut two = [7, 8];
+    assert_eq!((WholeSender::over(&mut two).n, WholeReceiver::over(&mut two).own), (7, 8));
+    let short = std::panic::catch_unwind(|| {
+        Sender::over(&mut [0; 259]);
+    });
+    assert!(short.is_err());
+}
+
+/// Every function that takes a slice is in the list of them, and none twice.
+#[test]
+fn slices_are_all_there() {
+    for (at, one) in SLICES.iter().enumerate() {
+        assert!(!SLICES[..at].contains(one), "{one:?} twice");
+    }
+    let without = [Fun::Interface, Fun::Pack];
+    for (fun, name, _) in FUNCTIONS {
+        let listed = SLICES.iter().any(|(of, _)| *of == fun);
+        assert_eq!(listed, !without.contains(&fun), "{name}");
+    }
+    let missing = Tally::default().missing();
+    let line = missing.iter().find(|line| line.starts_with("slices of functions"));
+    assert!(line.expect("none was NULL yet").contains("Destination of CpdCopy"));
 }
 
 fn image(sizes: [u32; 5], bytes: usize) -> Vec<u8> {
@@ -134,7 +169,7 @@ fn messages_lie_against_the_end() {
         of_place(&mut stands, op, length, left);
         stands.members
     };
-    let lay = |length, left| place_name(of(Op::SendWhole, length, left)[0].1);
+    let lay = |length, left| place_name(&WHOLE, of(Op::SendWhole, length, left)[0].1);
     assert_eq!(lay(8, 4), "others: end in the middle");
     assert_eq!([lay(2, 1), lay(2, 2)], ["2: end behind the first dword", "2: ends at the end"]);
     assert_eq!([lay(3, 2), lay(4, 3)], ["3: end behind the second", "4: end before the last"]);
@@ -143,15 +178,42 @@ fn messages_lie_against_the_end() {
     assert_eq!(longest[..4], ends.map(|end| format!("256: end {end}")));
     assert_eq!(longest[4], "256: end before the last");
     assert_eq!(longest[5..], ["256: ends at the end", "256: ends before the end"]);
-    let mut names: Vec<String> = (0..PLACES).map(place_name).collect();
-    names.sort_unstable();
-    names.dedup();
-    assert_eq!(names.len(), PLACES);
+    for lengths in [WHOLE, STORED, COPIED] {
+        let each = (0..places(&lengths)).map(|index| place_name(&lengths, index));
+        let mut names: Vec<String> = each.collect();
+        names.sort_unstable();
+        names.dedup();
+        assert_eq!(names.len(), places(&lengths));
+    }
     let received = of(Op::ReceiveWhole, 256, 1000);
     assert_eq!(received[1..], [(Set::ReceiveLeft, 256)], "none of those around the end");
     let around = of(Op::SendWhole, 3, 2);
     assert_eq!(around[1..], [(Set::SendAround, 1)]);
+    assert_eq!(of(Op::SendTwo, 3, 2)[1..], [(Set::WholeSendAround, 1)]);
+    assert_eq!(of(Op::ReceiveTwo, 256, 9)[1], (Set::WholeReceiveLeft, 8));
     assert!(of(Op::SendLook, 256, 1).is_empty());
+}
+
+#[test]
+fn moves_that_are_left_lie_against_the_end() {
+    let of = |op, left, to_end| {
+        let mut stands = Stands::default();
+        of_left(&mut stands, op, left, to_end);
+        stands.members
+    };
+    assert_eq!(of(Op::SendMoveAll, 0, 5), [(Set::StoreLeft, 0)]);
+    let store = |left, to_end| place_name(&STORED, of(Op::SendMoveAll, left, to_end)[1].1);
+    assert_eq!([store(1, 2), store(1, 1)], ["1: ends before the end", "1: ends at the end"]);
+    assert_eq!(
+        [store(2, 1), store(256, 255)],
+        ["2: end behind the first dword", "256: end before the last"]
+    );
+    assert_eq!(of(Op::ReceiveMoveAll, 255, 9)[0], (Set::CopyLeft, 255));
+    let copy = |left, to_end| place_name(&COPIED, of(Op::ReceiveMoveAll, left, to_end)[1].1);
+    assert_eq!(
+        [copy(255, 100), copy(200, 2)],
+        ["255: end in the middle", "others: end behind the second"]
+    );
 }
 
 #[test]

@@ -18,123 +18,172 @@ static uint32_t dword(const uint8_t *at)
 	return get((const uint32_t *)(const void *)at);
 }
 
-static uint32_t refuse(uint32_t *desc, uint32_t status, uint32_t code)
+static uint32_t refuse(struct guc_descriptor *desc, uint32_t status, uint32_t code)
 {
-	desc[GUC_DESC_STATUS] = status;
+	desc->status = status;
 	return code;
 }
 
-/* 6, 7 and 8, for the side whose own offset is word mine. */
-static uint32_t judge(uint32_t own, uint32_t *desc, unsigned mine)
+/* 6, 7 and 8, for the side whose own offset is the word mine. */
+static uint32_t judge(uint32_t own, struct guc_descriptor *desc, const uint32_t *mine)
 {
-	if (get(desc + GUC_DESC_STATUS))
+	if (get(&desc->status))
 		return GUC_BROKEN;
-	if (get(desc + GUC_DESC_HEAD) >= N || get(desc + GUC_DESC_TAIL) >= N)
-		return refuse(desc, 1, GUC_OVERFLOW);
-	if (get(desc + mine) != own)
-		return refuse(desc, 4, GUC_MISMATCH);
+	if (get(&desc->head) >= N || get(&desc->tail) >= N)
+		return refuse(desc, GUC_STATUS_OVERFLOW, GUC_OVERFLOW);
+	if (get(mine) != own)
+		return refuse(desc, GUC_STATUS_MISMATCH, GUC_MISMATCH);
 	return GUC_OK;
 }
 
 /* HEAD and TAIL are read again for what is used. */
-static uint32_t used(const uint32_t *desc)
+static uint32_t used(const struct guc_descriptor *desc)
 {
-	return (get(desc + GUC_DESC_TAIL) - get(desc + GUC_DESC_HEAD)) % N;
+	return (get(&desc->tail) - get(&desc->head)) % N;
 }
 
-static uint32_t may_send(const uint32_t *w, uint32_t *desc, const uint32_t *msg, size_t len)
+static uint32_t may_send(uint32_t own, struct guc_descriptor *desc, const uint32_t *msg, size_t len)
 {
 	uint32_t code;
 
 	if (!well_formed(get(msg), get(msg + 1)) || 1 + (get(msg) & 0xFF) != len)
 		return GUC_BAD_MESSAGE;
-	code = judge(w[GUC_STATE_OWN], desc, GUC_DESC_TAIL);
+	code = judge(own, desc, &desc->tail);
 	return code ? code : len > N - 1 - used(desc) ? GUC_FULL : GUC_OK;
 }
 
 /* Stores from TAIL on, which was judged to be the own tail. */
-uint32_t guc_send(uint32_t w[260], uint32_t *desc, size_t desc_len, uint32_t *buf, size_t n,
-		  const uint32_t *msg, size_t len)
+static uint32_t send_whole(uint32_t *own, struct guc_descriptor *desc, uint32_t *ring,
+			   const uint32_t *msg, size_t len)
 {
-	uint32_t k, tail, code = may_send(w, desc, msg, len);
+	uint32_t k, tail, code = may_send(*own, desc, msg, len);
 
-	(void)desc_len;
 	if (code)
 		return code;
-	tail = get(desc + GUC_DESC_TAIL);
+	tail = get(&desc->tail);
 	for (k = 0; k < len; k++)
-		buf[(tail + k) % n] = get(msg + k);
-	desc[GUC_DESC_TAIL] = w[GUC_STATE_OWN] = (tail + (uint32_t)len) % N;
+		ring[(tail + k) % N] = get(msg + k);
+	desc->tail = *own = (tail + (uint32_t)len) % N;
 	return GUC_OK;
 }
 
-uint32_t guc_send_look(uint32_t w[260], uint32_t *desc, size_t desc_len, const uint32_t *buf,
+uint32_t guc_send(struct guc_sender *s, struct guc_descriptor *desc, uint32_t *ring, size_t n,
+		  const uint32_t *msg, size_t len)
+{
+	(void)n;
+	return send_whole(s->words + AT_OWN, desc, ring, msg, len);
+}
+
+uint32_t guc_whole_send(struct guc_whole_sender *s, struct guc_descriptor *desc, uint32_t *ring,
+			size_t n, const uint32_t *msg, size_t len)
+{
+	(void)n;
+	return send_whole(&s->own, desc, ring, msg, len);
+}
+
+uint32_t guc_send_look(struct guc_sender *s, struct guc_descriptor *desc, const uint32_t *ring,
 		       size_t n, const uint32_t *msg, size_t len)
 {
-	uint32_t k, code = may_send(w, desc, msg, len);
+	uint32_t k, code = may_send(s->words[AT_OWN], desc, msg, len);
 
-	(void)desc_len;
-	(void)buf;
+	(void)ring;
 	(void)n;
 	if (code)
 		return code;
-	w[GUC_STATE_OWN] = get(desc + GUC_DESC_TAIL);
-	w[GUC_STATE_LEN] = (uint32_t)len;
+	s->words[AT_OWN] = get(&desc->tail);
+	s->words[AT_LEN] = (uint32_t)len;
 	for (k = 0; k < len; k++)
-		w[GUC_STATE_COPY + k] = get(msg + k);
+		s->words[AT_COPY + k] = get(msg + k);
 	return GUC_OK;
 }
 
-static uint32_t may_receive(const uint32_t *w, uint32_t *desc, const uint32_t *buf)
+/* Stores from TAIL on, as if it were the own tail still. */
+uint32_t guc_send_store_all(struct guc_sender *s, const struct guc_descriptor *desc,
+			    uint32_t *ring, size_t n)
 {
-	uint32_t code = judge(w[GUC_STATE_OWN], desc, GUC_DESC_HEAD);
+	uint32_t *moved = s->words + AT_MOVED;
+
+	(void)n;
+	for (; *moved < s->words[AT_LEN]; ++*moved)
+		ring[(get(&desc->tail) + *moved) % N] = s->words[AT_COPY + *moved];
+	return GUC_OK;
+}
+
+static uint32_t may_receive(uint32_t own, struct guc_descriptor *desc, const uint32_t *ring)
+{
+	uint32_t code = judge(own, desc, &desc->head);
 
 	if (code)
 		return code;
 	if (used(desc) == 0)
 		return GUC_EMPTY;
-	if (1 + (get(buf + w[GUC_STATE_OWN]) & 0xFF) > used(desc))
-		return refuse(desc, 2, GUC_UNDERFLOW);
+	if (1 + (get(ring + own) & 0xFF) > used(desc))
+		return refuse(desc, GUC_STATUS_UNDERFLOW, GUC_UNDERFLOW);
 	return GUC_OK;
 }
 
 /* Lays from HEAD on; the header's L and the header laid are two reads. */
-struct guc_received guc_receive(uint32_t w[260], uint32_t *desc, size_t desc_len,
-				const uint32_t *buf, size_t n, uint32_t *out, size_t out_len)
+static struct guc_received receive_whole(uint32_t *own, struct guc_descriptor *desc,
+					 const uint32_t *ring, uint32_t *out)
 {
-	struct guc_received r = { may_receive(w, desc, buf), 0 };
+	struct guc_received r = { may_receive(*own, desc, ring), 0 };
 	uint32_t k, head, len;
 
-	(void)desc_len;
-	(void)n;
-	(void)out_len;
 	if (r.code)
 		return r;
-	head = get(desc + GUC_DESC_HEAD) % N;
-	len = 1 + (get(buf + head) & 0xFF);
-	if (!well_formed(get(buf + head), get(buf + (head + 1) % N)))
+	head = get(&desc->head) % N;
+	len = 1 + (get(ring + head) & 0xFF);
+	if (!well_formed(get(ring + head), get(ring + (head + 1) % N)))
 		r.code = GUC_MALFORMED;
 	else
 		r.len = len;
 	for (k = 0; k < r.len; k++)
-		out[k] = get(buf + (head + k) % N);
-	desc[GUC_DESC_HEAD] = w[GUC_STATE_OWN] = (head + len) % N;
+		out[k] = get(ring + (head + k) % N);
+	desc->head = *own = (head + len) % N;
 	return r;
 }
 
-uint32_t guc_receive_look(uint32_t w[260], uint32_t *desc, size_t desc_len, const uint32_t *buf,
+struct guc_received guc_receive(struct guc_receiver *r, struct guc_descriptor *desc,
+				const uint32_t *ring, size_t n, uint32_t *out, size_t out_len)
+{
+	(void)n;
+	(void)out_len;
+	return receive_whole(r->words + AT_OWN, desc, ring, out);
+}
+
+struct guc_received guc_whole_receive(struct guc_whole_receiver *r, struct guc_descriptor *desc,
+				      const uint32_t *ring, size_t n, uint32_t *out, size_t out_len)
+{
+	(void)n;
+	(void)out_len;
+	return receive_whole(&r->own, desc, ring, out);
+}
+
+uint32_t guc_receive_look(struct guc_receiver *r, struct guc_descriptor *desc, const uint32_t *ring,
 			  size_t n)
 {
-	uint32_t code = may_receive(w, desc, buf);
+	uint32_t *w = r->words, code = may_receive(w[AT_OWN], desc, ring);
 
-	(void)desc_len;
 	(void)n;
 	if (code)
 		return code;
-	w[GUC_STATE_OWN] = get(desc + GUC_DESC_HEAD);
-	w[GUC_STATE_LEN] = 1 + (get(buf + w[GUC_STATE_OWN] % N) & 0xFF);
-	w[GUC_STATE_MOVED] = 1;
-	w[GUC_STATE_COPY] = get(buf + w[GUC_STATE_OWN] % N);
+	w[AT_OWN] = get(&desc->head);
+	w[AT_LEN] = 1 + (get(ring + w[AT_OWN] % N) & 0xFF);
+	w[AT_MOVED] = 1;
+	w[AT_COPY] = get(ring + w[AT_OWN] % N);
+	return GUC_OK;
+}
+
+/* Copies as many as the header in the ring says now. */
+uint32_t guc_receive_copy_all(struct guc_receiver *r, const struct guc_descriptor *desc,
+			      const uint32_t *ring, size_t n)
+{
+	uint32_t *w = r->words, own = w[AT_OWN] % N, len = 1 + (get(ring + own) & 0xFF);
+
+	(void)desc;
+	(void)n;
+	for (; w[AT_MOVED] < len; w[AT_MOVED]++)
+		w[AT_COPY + w[AT_MOVED]] = get(ring + (own + w[AT_MOVED]) % N);
 	return GUC_OK;
 }
 
@@ -172,25 +221,25 @@ static uint8_t byte(const uint8_t *at)
 	return *(const volatile uint8_t *)at;
 }
 
-static int has_name(const uint8_t *entry, const uint8_t *name, size_t len)
+static int has_name(const uint8_t *entry, const char *name, size_t len)
 {
 	size_t k;
 
 	for (k = 0; k < 12; k++)
-		if (byte(entry + k) != (k < len ? byte(name + k) : 0))
+		if (byte(entry + k) != (k < len ? byte((const uint8_t *)name + k) : 0))
 			return 0;
 	return 1;
 }
 
 /* 14, 18 and 19, all that the scenes meet; H and n are read once, so that no entry
  * outside the blob is read. */
-static uint32_t may_walk(const uint8_t *blob, size_t len, const uint8_t *name, size_t name_len,
+static uint32_t may_walk(const uint8_t *blob, size_t len, const char *name, size_t name_len,
 			 size_t *at, size_t *count)
 {
 	size_t k;
 
 	for (k = 0; k < name_len; k++)
-		if (byte(name + k) == 0)
+		if (byte((const uint8_t *)name + k) == 0)
 			return GUC_BAD_FIELD;
 	*at = byte(blob + 10);
 	*count = dword(blob + 4);
@@ -201,7 +250,7 @@ static uint32_t may_walk(const uint8_t *blob, size_t len, const uint8_t *name, s
 
 /* Walks once to count the entries of the name and again to find the first; its
  * offset and length are read again after they were judged. */
-struct guc_part guc_cpd_part(const uint8_t *blob, size_t len, const uint8_t *name, size_t name_len)
+struct guc_part guc_cpd_part(const uint8_t *blob, size_t len, const char *name, size_t name_len)
 {
 	struct guc_part p = { GUC_OK, 0, 0, 0 };
 	size_t k, at, count, named = 0;

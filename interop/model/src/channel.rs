@@ -1,11 +1,14 @@
 //! The channel: states of the two sides, what fits, opening.
-//! The steps themselves are in `channel/send.rs` and `channel/receive.rs`.
+//! The steps themselves are in `channel/send.rs` and `channel/receive.rs`, the
+//! sides that make whole calls only in `channel/two.rs`.
 
 mod receive;
 mod send;
+mod two;
 
-pub use receive::{receive_look, receive_move, receive_publish, receive_whole};
-pub use send::{send_look, send_move, send_publish, send_whole};
+pub use receive::{receive_look, receive_move, receive_move_all, receive_publish, receive_whole};
+pub use send::{send_look, send_move, send_move_all, send_publish, send_whole};
+pub use two::{state_of, two_open, two_receive, two_send, Two, TwoAnswer};
 
 use crate::message::{total_length, well_formed};
 

@@ -7,14 +7,19 @@ mod cpd;
 mod css;
 mod directories;
 mod fields;
+mod halves;
 mod list;
 mod message;
+mod odd;
 mod places;
 mod repeats;
 mod state;
+mod twos;
 mod wraps;
 
-pub use calls::{every_descriptor, every_message_length, every_size, every_state, every_type};
+pub use calls::{
+    every_descriptor, every_empty, every_message_length, every_size, every_state, every_type,
+};
 pub use case::{buffer_length, case, case_for, disallowed_length};
 pub use cpd::{cpd_case, CpdCase};
 pub use css::{css_blob, every_length, one_off, wrapping_images};
@@ -23,14 +28,17 @@ pub use directories::{
     every_upper_bit, every_wrap,
 };
 pub use fields::{every_field, every_message};
+pub use halves::{every_left, every_left_place};
 pub use list::{operations, output};
 pub use message::{fields, malformed, message, near_malformed, well_formed, well_formed_of};
+pub use odd::{odd_channel, odd_operation, odd_sides};
 pub use places::every_place;
 pub use repeats::{
     every_misplaced_name, every_near_name, every_repeat, every_repeat_cut, every_repeated_length,
     every_uncounted_name,
 };
 pub use state::{break_state, random_state, receiving, sending};
+pub use twos::every_two;
 
 /// The splitmix64 generator.
 #[derive(Clone, Debug)]

@@ -10,12 +10,23 @@ use std::collections::VecDeque;
 pub enum Operation {
     SendLook(Vec<u32>),
     SendMove,
+    /// The moves that are left, one after another.
+    SendMoveAll,
     SendPublish,
     SendWhole(Vec<u32>),
     ReceiveLook,
     ReceiveMove,
+    ReceiveMoveAll,
     ReceivePublish(Vec<u32>),
     ReceiveWhole(Vec<u32>),
+}
+
+impl Operation {
+    /// Whether it is the sender's.
+    pub fn sends(&self) -> bool {
+        use Operation::*;
+        matches!(self, SendLook(_) | SendMove | SendMoveAll | SendPublish | SendWhole(_))
+    }
 }
 
 /// The answer to an operation, and the output afterwards (empty if none lent).
@@ -149,6 +160,15 @@ impl Plain {
         0
     }
 
+    /// As many moves as are left, which may be none; 3 if not mid-call.
+    pub fn send_move_all(&mut self) -> u32 {
+        if self.sending.is_none() {
+            return 3;
+        }
+        while self.send_move() == 0 {}
+        0
+    }
+
     /// A receive's move.
     pub fn receive_move(&mut self) -> u32 {
         let (k, length) = match self.receiving() {
@@ -159,6 +179,15 @@ impl Plain {
             return 12;
         }
         self.receiving = Some(k + 1);
+        0
+    }
+
+    /// As a send's.
+    pub fn receive_move_all(&mut self) -> u32 {
+        if self.receiving.is_none() {
+            return 3;
+        }
+        while self.receive_move() == 0 {}
         0
     }
 
@@ -233,10 +262,12 @@ impl Plain {
         let (code, len) = match operation {
             Operation::SendLook(message) => (self.send_look(message), 0),
             Operation::SendMove => (self.send_move(), 0),
+            Operation::SendMoveAll => (self.send_move_all(), 0),
             Operation::SendPublish => (self.send_publish(), 0),
             Operation::SendWhole(message) => (self.send_whole(message), 0),
             Operation::ReceiveLook => (self.receive_look(), 0),
             Operation::ReceiveMove => (self.receive_move(), 0),
+            Operation::ReceiveMoveAll => (self.receive_move_all(), 0),
             Operation::ReceivePublish(lent) => {
                 output.clone_from(lent);
                 self.receive_publish(&mut output)

@@ -52,6 +52,7 @@ fn check_places(before: &Plain, operation: &Operation) {
     let unreleased = before.published() - before.released();
     let last = match operation {
         Operation::SendMove => before.sending().unwrap().0,
+        Operation::SendMoveAll => before.sending().unwrap().1 - 1,
         Operation::SendWhole(message) => message.len() - 1,
         _ => return,
     };
@@ -82,8 +83,11 @@ fn ended_call(
     }
 }
 
+/// Whether the sender and the receiver are sides of two words.
+const KINDS: [[bool; 2]; 4] = [[false, false], [true, false], [false, true], [true, true]];
+
 /// The calls of a list run whole, in the order of their ends, on a channel of
-/// their own.
+/// their own, whose sides may be those that make no other calls.
 struct Whole {
     channel: Channel,
     published: Vec<Vec<u32>>,
@@ -92,7 +96,8 @@ struct Whole {
 
 impl Whole {
     fn new(rng: &mut Rng, buffer: &[u32]) -> Whole {
-        let channel = Channel::open(rng.words(16), buffer.to_vec()).unwrap();
+        let two = rng.pick(&KINDS);
+        let channel = Channel::open(rng.words(16), buffer.to_vec(), two).unwrap();
         Whole { channel, published: Vec::new(), received: Vec::new() }
     }
 
@@ -123,14 +128,14 @@ impl Whole {
 
 /// Runs a list and compares every answer, output, descriptor and buffer.
 fn run(rng: &mut Rng, n: usize, count: usize, tally: &mut Tally) {
-    let buffer = rng.words(n);
-    let list = operations(rng, &buffer, count);
-    let mut channel = Channel::open(rng.words(16), buffer.clone()).unwrap();
+    let (buffer, two) = (rng.words(n), rng.pick(&KINDS));
+    let list = operations(rng, &buffer, count, two);
+    let mut channel = Channel::open(rng.words(16), buffer.clone(), two).unwrap();
     let mut whole = Whole::new(rng, &buffer);
     let mut plain = Plain::new(&buffer);
     let mut looked = Vec::new();
     for operation in &list {
-        let stores = matches!(operation, Operation::SendMove | Operation::SendWhole(_));
+        let stores = operation.sends() && *operation != Operation::SendPublish;
         let before = if stores { unreleased(&plain) } else { Vec::new() };
         let reply = channel.apply(operation);
         if reply.code == 0 {
@@ -157,7 +162,7 @@ fn run(rng: &mut Rng, n: usize, count: usize, tally: &mut Tally) {
 fn lists_against_the_plain_channel() {
     let mut rng = Rng::new(0x0D3A);
     let mut tally = Tally::default();
-    for index in 0..3000 {
+    for index in 0..2000 {
         let (n, count) = match index % 100 {
             0 => (16384, 4000),
             1..=4 => (2048, 1000),
@@ -185,7 +190,8 @@ fn outputs_longer_than_a_message_keep_their_rest() {
     let mut rng = Rng::new(5);
     for _ in 0..200 {
         let lent = output(&mut rng);
-        let mut channel = Channel::open(vec![1; 16], vec![0; 1024]).unwrap();
+        let two = rng.pick(&KINDS);
+        let mut channel = Channel::open(vec![1; 16], vec![0; 1024], two).unwrap();
         let message = model::generate::well_formed(&mut rng);
         assert_eq!(channel.apply(&Operation::SendWhole(message.clone())).code, 0);
         let reply = channel.apply(&Operation::ReceiveWhole(lent.clone()));

@@ -11,15 +11,16 @@ use model::message::{is_message, pack, unpack, TYPES};
 use model::run::{Case, Op};
 use model::{cpd, css};
 
-/// The numbers a function can answer.
+/// The numbers a function can answer with a descriptor of 16 dwords.
 fn numbers(op: Op) -> &'static [usize] {
     match op {
-        Op::SendLook | Op::SendWhole => &[0, 1, 2, 3, 4, 6, 7, 8, 10],
-        Op::SendMove | Op::SendPublish | Op::ReceiveMove => &[0, 1, 2, 3, 12],
-        Op::ReceiveLook => &[0, 1, 2, 3, 6, 7, 8, 9, 11],
-        Op::ReceivePublish => &[0, 1, 2, 3, 5, 12, 13],
-        Op::ReceiveWhole => &[0, 1, 2, 3, 5, 6, 7, 8, 9, 11, 13],
-        Op::Open => &[0, 1, 2],
+        Op::SendLook | Op::SendWhole | Op::SendTwo => &[0, 2, 3, 4, 6, 7, 8, 10],
+        Op::SendMove | Op::SendPublish | Op::ReceiveMove => &[0, 2, 3, 12],
+        Op::SendMoveAll | Op::ReceiveMoveAll => &[0, 2, 3],
+        Op::ReceiveLook => &[0, 2, 3, 6, 7, 8, 9, 11],
+        Op::ReceivePublish => &[0, 2, 3, 5, 12, 13],
+        Op::ReceiveWhole | Op::ReceiveTwo => &[0, 2, 3, 5, 6, 7, 8, 9, 11, 13],
+        Op::Open | Op::OpenTwo => &[0, 2],
     }
 }
 
@@ -38,7 +39,7 @@ fn check_refusal(before: &Case, after: &Case, answer: &Answer) {
     assert_eq!(answer.len, 0);
     let next = match answer.code {
         13 => State::idle(before.state.n, answer.next.own),
-        _ if before.op == Op::Open => State::ZERO,
+        _ if before.op.opens() => State::ZERO,
         _ => before.state,
     };
     assert_eq!(answer.next, next);
@@ -50,15 +51,16 @@ fn check_accepted(before: &Case, after: &Case, answer: &Answer) {
     let stores = before.buf.iter().zip(&after.buf).filter(|(a, b)| a != b).count();
     let (places, most): (&[usize], usize) = match before.op {
         Op::SendMove => (&[], 1),
+        Op::SendMoveAll => (&[], (before.state.len - before.state.moved) as usize),
         Op::SendPublish => (&[TAIL], 0),
-        Op::SendWhole => (&[TAIL], before.msg.len()),
-        Op::ReceivePublish | Op::ReceiveWhole => (&[HEAD], 0),
-        Op::Open => (&[0, 1, 2, 3, 4, 5, 6, 7, 8, 9, 10, 11, 12, 13, 14, 15], 0),
+        Op::SendWhole | Op::SendTwo => (&[TAIL], before.msg.len()),
+        Op::ReceivePublish | Op::ReceiveWhole | Op::ReceiveTwo => (&[HEAD], 0),
+        Op::Open | Op::OpenTwo => (&[0, 1, 2, 3, 4, 5, 6, 7, 8, 9, 10, 11, 12, 13, 14, 15], 0),
         _ => (&[], 0),
     };
     assert!(changed.iter().all(|at| places.contains(at)));
     assert!(stores <= most);
-    let lays = matches!(before.op, Op::ReceivePublish | Op::ReceiveWhole);
+    let lays = matches!(before.op, Op::ReceivePublish | Op::ReceiveWhole | Op::ReceiveTwo);
     assert_eq!(answer.len > 0, lays);
     let laid = answer.len as usize;
     assert!(!lays || is_message(&after.out[..laid]));
@@ -87,6 +89,20 @@ fn every_number_of_every_call() {
             let expected = numbers(op).contains(&code);
             assert!(if expected { count >= 60 } else { count == 0 }, "{op:?} {code}: {count}");
         }
+    }
+}
+
+/// C can't lend such a descriptor; the paper's answer to it is the lowest.
+#[test]
+fn a_descriptor_of_other_than_16_dwords() {
+    let mut rng = Rng::new(25);
+    for (op, words) in Op::ALL.into_iter().cycle().zip([0, 1, 15, 17, 32].repeat(140)) {
+        let mut before = case_for(&mut rng, op);
+        before.desc.resize(words, 0);
+        let mut after = before.clone();
+        let answer = after.run();
+        assert_eq!((answer.code, &after), (1, &before));
+        check_refusal(&before, &after, &answer);
     }
 }
 

@@ -2,7 +2,7 @@
 //! lent, number by number: one counts only where no lower number applies.
 
 use super::messages::{known_type, of_message};
-use super::places::of_place;
+use super::places::{of_left, of_place};
 use super::{Edge, Stands};
 use crate::sets::Set;
 use model::channel::State;
@@ -11,21 +11,16 @@ use model::run::{Case, Op};
 /// The boundaries of a call before it is made.
 pub fn of_call(case: &Case) -> Stands {
     let mut stands = Stands::default();
-    let (words, n) = (case.desc.len() as u64, case.buf.len() as u64);
-    stands.at(Edge::DescriptorBelow, words, [15, 16]);
-    stands.at(Edge::DescriptorAbove, words, [16, 17]);
-    if words != 16 {
-        return stands;
-    }
+    let n = case.buf.len() as u64;
     stands.at(Edge::LeastN, n, [1023, 1024]);
     stands.at(Edge::MostN, n, [16384, 16385]);
     stands.at(Edge::NextN, n, [16384, 17408]);
     let allowed = n % 1024 == 0 && (1024..=16384).contains(&n);
-    if case.op == Op::Open || !allowed || !of_state(&mut stands, case, n) {
+    if case.op.opens() || !allowed || !of_state(&mut stands, case, n) {
         return stands;
     }
     match case.op {
-        Op::SendLook | Op::SendWhole => {
+        Op::SendLook | Op::SendWhole | Op::SendTwo => {
             let (of_message, well_formed) = of_message(&case.msg);
             stands.add(of_message);
             if well_formed {
@@ -33,15 +28,20 @@ pub fn of_call(case: &Case) -> Stands {
             }
         }
         Op::ReceiveLook => of_look(&mut stands, case, n),
-        Op::ReceiveWhole => {
+        Op::ReceiveWhole | Op::ReceiveTwo => {
             if of_output(&mut stands, case) {
                 of_look(&mut stands, case, n);
             }
         }
         Op::SendMove | Op::ReceiveMove => of_progress(&mut stands, Edge::Move, &case.state),
+        Op::SendMoveAll | Op::ReceiveMoveAll => {
+            let State { own, len, moved, .. } = case.state;
+            let to_end = n - (own + moved) as u64 % n;
+            of_left(&mut stands, case.op, (len - moved) as usize, to_end as usize);
+        }
         Op::SendPublish => of_progress(&mut stands, Edge::Publish, &case.state),
         Op::ReceivePublish => of_receive_publish(&mut stands, case),
-        Op::Open => {}
+        Op::Open | Op::OpenTwo => {}
     }
     stands
 }
@@ -108,11 +108,35 @@ fn of_active(stands: &mut Stands, case: &Case, placed: bool) -> bool {
     moved_fits && type_fits
 }
 
+/// Own offsets of a side of two words, for this N; members of `TwoOwn` for each
+/// side.
+fn owns(n: u64) -> [u64; TWO_OWNS.len()] {
+    [0, 1, n - 1, n, n + 1, 1 << 31, (1 << 32) - 2, (1 << 32) - 1]
+}
+
+/// What there are of these.
+pub const TWO_OWNS: [&str; 8] = ["0", "1", "N - 1", "N", "N + 1", "2^31", "2^32 - 2", "2^32 - 1"];
+
+/// The members of a side of two words.
+fn of_two(stands: &mut Stands, case: &Case, n: u64) {
+    let side = !case.op.sends() as usize;
+    let (wrong, own) = (case.state.n ^ n as u32, case.state.own as u64);
+    if wrong.count_ones() == 1 && own < n {
+        stands.member(Set::TwoN, 32 * side + wrong.trailing_zeros() as usize);
+    }
+    if let Some(at) = owns(n).iter().position(|one| *one == own && wrong == 0) {
+        stands.member(Set::TwoOwn, TWO_OWNS.len() * side + at);
+    }
+}
+
 /// Number 3: each of a state's words decides only where the others fit.
 /// Whether all of them do.
 fn of_state(stands: &mut Stands, case: &Case, n: u64) -> bool {
     let State { n: made_for, own, len, moved, copy } = &case.state;
     let (own_fits, n_fits) = ((*own as u64) < n, *made_for as u64 == n);
+    if case.op.on_two() {
+        of_two(stands, case, n);
+    }
     let rest_fits = if case.op.goes_on() {
         of_active(stands, case, own_fits && n_fits)
     } else {

@@ -1,13 +1,13 @@
-//! How the message of a whole send or receive lies against the end of the buffer:
-//! it is copied in one straight run or in two, and the end may fall on either side
-//! of a dword that is judged.
+//! How the dwords that a call moves lie against the end of the buffer: a whole
+//! send or receive, or all moves that are left. They are copied in one straight
+//! run or in two, and the end may fall on either side of a dword that is judged.
 
 use super::Stands;
 use crate::sets::Set;
 use model::run::Op;
 
-/// Where the end falls. A message of 2 dwords has the first three of these, one of
-/// 3 the first four, one of 4 the first five.
+/// Where the end falls. Dwords of which there is one have the first two of these,
+/// two have the first three, and so on.
 const ENDS: [&str; 6] = [
     "ends before the end",
     "ends at the end",
@@ -18,9 +18,14 @@ const ENDS: [&str; 6] = [
 ];
 
 /// Lengths that are looked at apart; all others stand together, under 0.
-const LENGTHS: [usize; 6] = [2, 3, 4, 17, 256, 0];
+pub type Lengths = [usize; 6];
 
-/// How many of `ENDS` a message of this length has.
+/// Of a message's dwords, of those that a send has left and a receive.
+pub const WHOLE: Lengths = [2, 3, 4, 17, 256, 0];
+pub const STORED: Lengths = [1, 2, 3, 17, 256, 0];
+pub const COPIED: Lengths = [1, 2, 3, 17, 255, 0];
+
+/// How many of `ENDS` so many dwords have.
 const fn ends(length: usize) -> usize {
     if length == 0 || length > 4 {
         ENDS.len()
@@ -29,10 +34,12 @@ const fn ends(length: usize) -> usize {
     }
 }
 
-/// All members of `SendPlace`, and of `ReceivePlace`.
-pub const PLACES: usize = ends(2) + ends(3) + ends(4) + ends(17) + ends(256) + ends(0);
+/// All members that these lengths have.
+pub const fn places(of: &Lengths) -> usize {
+    ends(of[0]) + ends(of[1]) + ends(of[2]) + ends(of[3]) + ends(of[4]) + ends(of[5])
+}
 
-/// The place in `ENDS` of a message with so many places left before the end.
+/// The place in `ENDS` of dwords with so many places left before the end.
 fn end(length: usize, left: usize) -> usize {
     match left {
         _ if left > length => 0,
@@ -43,20 +50,20 @@ fn end(length: usize, left: usize) -> usize {
     }
 }
 
-/// A length's place in `LENGTHS`, and the member with which its own begin.
-fn first(length: usize) -> (usize, usize) {
-    let at = LENGTHS.iter().position(|of| *of == length).unwrap_or(LENGTHS.len() - 1);
-    (at, LENGTHS[..at].iter().map(|of| ends(*of)).sum())
+/// The member with which a length's own begin; so many of `lengths` come before.
+fn first(lengths: &Lengths, length: usize) -> usize {
+    let at = lengths.iter().position(|of| *of == length).unwrap_or(lengths.len() - 1);
+    lengths[..at].iter().map(|of| ends(*of)).sum()
 }
 
-/// A member of `SendPlace` or `ReceivePlace` by name.
-pub fn place_name(index: usize) -> String {
-    let at = (1..LENGTHS.len()).filter(|at| first(LENGTHS[*at]).1 <= index).count();
-    let length = match LENGTHS[at] {
+/// A member by name.
+pub fn place_name(lengths: &Lengths, index: usize) -> String {
+    let at = (1..lengths.len()).filter(|at| first(lengths, lengths[*at]) <= index).count();
+    let length = match lengths[at] {
         0 => "others".to_string(),
         length => length.to_string(),
     };
-    format!("{length}: {}", ENDS[index - first(LENGTHS[at]).1])
+    format!("{length}: {}", ENDS[index - first(lengths, lengths[at])])
 }
 
 /// Notes the members of an accepted whole call, with so many places from its
@@ -64,14 +71,30 @@ pub fn place_name(index: usize) -> String {
 pub fn of_place(stands: &mut Stands, op: Op, length: usize, left: usize) {
     let (place, of_left, around) = match op {
         Op::SendWhole => (Set::SendPlace, Set::SendLeft, Set::SendAround),
+        Op::SendTwo => (Set::WholeSendPlace, Set::WholeSendLeft, Set::WholeSendAround),
         Op::ReceiveWhole => (Set::ReceivePlace, Set::ReceiveLeft, Set::ReceiveAround),
+        Op::ReceiveTwo => (Set::WholeReceivePlace, Set::WholeReceiveLeft, Set::WholeReceiveAround),
         _ => return,
     };
-    stands.member(place, first(length).1 + end(length, left));
+    stands.member(place, first(&WHOLE, length) + end(length, left));
     if length == 256 {
         stands.member(of_left, left.min(257) - 1);
     }
     if left < length {
         stands.member(around, length - 2);
+    }
+}
+
+/// Notes the members of a call that makes all moves that are left, so many, with so
+/// many places from the first of them to the end of the buffer. It is accepted, also
+/// where none is left.
+pub fn of_left(stands: &mut Stands, op: Op, length: usize, to_end: usize) {
+    let (lengths, left, place) = match op {
+        Op::SendMoveAll => (&STORED, Set::StoreLeft, Set::StorePlace),
+        _ => (&COPIED, Set::CopyLeft, Set::CopyPlace),
+    };
+    stands.member(left, length);
+    if length > 0 {
+        stands.member(place, first(lengths, length) + end(length, to_end));
     }
 }

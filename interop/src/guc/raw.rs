@@ -1,9 +1,7 @@
-//! The archive's functions and structs as include/guc.h declares them.
+//! The archive's functions and their answers as include/guc.h declares them.
 
-use super::constants::GUC_STATE_WORDS;
-
-/// A side's state: n, own, len, moved, then the copy of 256 dwords.
-pub type Words = [u32; GUC_STATE_WORDS as usize];
+use super::sides::{Descriptor, Receiver, Sender, WholeReceiver, WholeSender};
+use std::os::raw::c_char;
 
 #[repr(C)]
 #[derive(Clone, Copy, Debug, PartialEq, Eq)]
@@ -79,44 +77,54 @@ pub struct Manifest {
 type In = *const u32;
 /// Bytes that are only read.
 type Bytes = *const u8;
+/// The descriptor where it may be changed.
+type Desc = *mut Descriptor;
 
 extern "C" {
-    pub fn guc_open(s: *mut Words, r: *mut Words, d: *mut u32, dl: usize, b: In, n: usize) -> u32;
-    pub fn guc_send_look(
-        w: *mut Words,
-        d: *mut u32,
-        dl: usize,
-        b: In,
-        n: usize,
-        m: In,
-        ml: usize,
-    ) -> u32;
-    pub fn guc_send_store(w: *mut Words, d: In, dl: usize, b: *mut u32, n: usize) -> u32;
-    pub fn guc_send_publish(w: *mut Words, d: *mut u32, dl: usize, b: In, n: usize) -> u32;
-    pub fn guc_send(
-        w: *mut Words,
-        d: *mut u32,
-        dl: usize,
-        b: *mut u32,
-        n: usize,
-        m: In,
-        ml: usize,
-    ) -> u32;
-    pub fn guc_receive_look(w: *mut Words, d: *mut u32, dl: usize, b: In, n: usize) -> u32;
-    pub fn guc_receive_copy(w: *mut Words, d: In, dl: usize, b: In, n: usize) -> u32;
+    pub fn guc_interface_2() -> u32;
+    pub fn guc_open(s: *mut Sender, r: *mut Receiver, d: Desc, b: In, n: usize) -> u32;
+    pub fn guc_send_look(s: *mut Sender, d: Desc, b: In, n: usize, m: In, ml: usize) -> u32;
+    pub fn guc_send_store(s: *mut Sender, d: *const Descriptor, b: *mut u32, n: usize) -> u32;
+    pub fn guc_send_store_all(s: *mut Sender, d: *const Descriptor, b: *mut u32, n: usize) -> u32;
+    pub fn guc_send_publish(s: *mut Sender, d: Desc, b: In, n: usize) -> u32;
+    pub fn guc_send(s: *mut Sender, d: Desc, b: *mut u32, n: usize, m: In, ml: usize) -> u32;
+    pub fn guc_receive_look(r: *mut Receiver, d: Desc, b: In, n: usize) -> u32;
+    pub fn guc_receive_copy(r: *mut Receiver, d: *const Descriptor, b: In, n: usize) -> u32;
+    pub fn guc_receive_copy_all(r: *mut Receiver, d: *const Descriptor, b: In, n: usize) -> u32;
     pub fn guc_receive_publish(
-        w: *mut Words,
-        d: *mut u32,
-        dl: usize,
+        r: *mut Receiver,
+        d: Desc,
         b: In,
         n: usize,
         o: *mut u32,
         ol: usize,
     ) -> Received;
     pub fn guc_receive(
-        w: *mut Words,
-        d: *mut u32,
-        dl: usize,
+        r: *mut Receiver,
+        d: Desc,
+        b: In,
+        n: usize,
+        o: *mut u32,
+        ol: usize,
+    ) -> Received;
+    pub fn guc_whole_open(
+        s: *mut WholeSender,
+        r: *mut WholeReceiver,
+        d: Desc,
+        b: In,
+        n: usize,
+    ) -> u32;
+    pub fn guc_whole_send(
+        s: *mut WholeSender,
+        d: Desc,
+        b: *mut u32,
+        n: usize,
+        m: In,
+        ml: usize,
+    ) -> u32;
+    pub fn guc_whole_receive(
+        r: *mut WholeReceiver,
+        d: Desc,
         b: In,
         n: usize,
         o: *mut u32,
@@ -137,11 +145,11 @@ extern "C" {
     pub fn guc_css_part(b: Bytes, bl: usize, which: u32) -> Part;
     pub fn guc_css_copy(b: Bytes, bl: usize, which: u32, dst: *mut u8, room: usize) -> Copied;
     pub fn guc_css_version(b: Bytes, bl: usize) -> Version;
-    pub fn guc_cpd_part(b: Bytes, bl: usize, name: Bytes, nl: usize) -> Part;
+    pub fn guc_cpd_part(b: Bytes, bl: usize, name: *const c_char, nl: usize) -> Part;
     pub fn guc_cpd_copy(
         b: Bytes,
         bl: usize,
-        name: Bytes,
+        name: *const c_char,
         nl: usize,
         dst: *mut u8,
         room: usize,

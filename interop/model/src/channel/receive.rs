@@ -1,5 +1,5 @@
-//! The receiver's steps: look, one move per further dword, publish; and the
-//! whole receive.
+//! The receiver's steps: look, one move per further dword, publish; the moves
+//! that are left in one call; and the whole receive.
 
 use super::{
     fits_idle, fits_receiving, judge_lent, judge_ring, past_message, place, used, Answer, State,
@@ -47,6 +47,22 @@ pub fn receive_move(state: &State, desc: &[u32], buf: &[u32]) -> Answer {
     let mut next = State { moved: state.moved + 1, ..*state };
     next.copy[state.moved as usize] = buf[place(state.own, state.moved, buf.len())];
     Answer::accepted(next)
+}
+
+/// "Every dword that is left: what that many guc_receive_copy do, one after another
+/// [...]; where none is left, as after the look at a message of one dword, nothing."
+/// (the header)
+pub fn receive_move_all(state: &State, desc: &[u32], buf: &[u32]) -> Answer {
+    let code = judge_lent(desc, buf, |n| fits_receiving(state, n));
+    if code != 0 {
+        return Answer::refused(code, state);
+    }
+    let mut answer = Answer::accepted(*state);
+    while answer.next.moved < answer.next.len {
+        answer = receive_move(&answer.next, desc, buf);
+        assert_eq!(answer.code, 0, "a receive that goes on moves each dword");
+    }
+    answer
 }
 
 /// "publish HEAD = (own head + L) mod N and lay the L dwords at the front of

@@ -1,4 +1,5 @@
-//! The sender's steps: look, one move per dword, publish; and the whole send.
+//! The sender's steps: look, one move per dword, publish; the moves that are left
+//! in one call; and the whole send.
 
 use super::{
     fits_idle, fits_sending, free, judge_lent, judge_ring, past_message, place, Answer, State,
@@ -41,6 +42,21 @@ pub fn send_move(state: &State, desc: &[u32], buf: &mut [u32]) -> Answer {
     }
     buf[place(state.own, state.moved, buf.len())] = state.copy[state.moved as usize];
     Answer::accepted(State { moved: state.moved + 1, ..*state })
+}
+
+/// "Every dword that is left: what that many guc_send_store do, one after another
+/// [...]; where none is left, nothing." (the header)
+pub fn send_move_all(state: &State, desc: &[u32], buf: &mut [u32]) -> Answer {
+    let code = judge_lent(desc, buf, |n| fits_sending(state, n));
+    if code != 0 {
+        return Answer::refused(code, state);
+    }
+    let mut answer = Answer::accepted(*state);
+    while answer.next.moved < answer.next.len {
+        answer = send_move(&answer.next, desc, buf);
+        assert_eq!(answer.code, 0, "a send that goes on moves each dword");
+    }
+    answer
 }
 
 /// "publish TAIL = (own tail + L) mod N"

@@ -2,13 +2,14 @@
 //! what is free and used, every type, every bit of STATUS, every size, every word
 //! of a state.
 
-use super::case::{buffer_length, lay, sound};
+use super::case::{buffer_length, cut_to_two, lay, sound};
 use super::message::{well_formed_of, with_type};
 use super::Rng;
 use crate::channel::{State, HEAD, STATUS, TAIL};
 use crate::run::{Case, Op};
 
-const LOOKS: [Op; 4] = [Op::SendLook, Op::SendWhole, Op::ReceiveLook, Op::ReceiveWhole];
+const SENDS: [Op; 3] = [Op::SendLook, Op::SendWhole, Op::SendTwo];
+const RECEIVES: [Op; 3] = [Op::ReceiveLook, Op::ReceiveWhole, Op::ReceiveTwo];
 
 /// A look or whole call on a small ring, idle and agreeing with its descriptor.
 fn look(rng: &mut Rng, op: Op) -> Case {
@@ -38,9 +39,9 @@ pub fn every_message_length(rng: &mut Rng) -> Vec<Case> {
     let mut cases = Vec::new();
     for length in 1..=256 {
         for more in 0..2 {
-            let op = rng.pick(&[Op::ReceiveLook, Op::ReceiveWhole]);
+            let op = rng.pick(&RECEIVES);
             cases.push(with_used(rng, op, length, length - more));
-            let op = rng.pick(&[Op::SendLook, Op::SendWhole]);
+            let op = rng.pick(&SENDS);
             cases.push(with_used(rng, op, length.max(2), 1023 - length.max(2) + more));
         }
     }
@@ -55,8 +56,7 @@ fn of_type(rng: &mut Rng, op: Op, kind: u32) -> Case {
     let mut message = well_formed_of(rng, length);
     message[1] = with_type(message[1], kind);
     if op.goes_on() {
-        let left = matches!(op, Op::SendMove | Op::ReceiveMove) as u32;
-        let len = length as u32;
+        let (left, len) = (op.moves() as u32, length as u32);
         case.state = State { len, moved: len - left, ..State::idle(1024, case.state.own) };
         case.state.copy[..length].copy_from_slice(&message);
     } else if op.sends() {
@@ -70,21 +70,16 @@ fn of_type(rng: &mut Rng, op: Op, kind: u32) -> Case {
 /// Each type, known or not, for each call that is lent or finds a message.
 pub fn every_type(rng: &mut Rng) -> Vec<Case> {
     let mut cases = Vec::new();
-    for op in Op::ALL.into_iter().filter(|op| *op != Op::Open) {
+    for op in Op::ALL.into_iter().filter(|op| !op.opens()) {
         cases.extend((0..8).map(|kind| of_type(rng, op, kind)));
     }
     cases
 }
 
-/// Descriptors and buffers of each size around those allowed.
+/// Buffers of each size around those allowed.
 pub fn every_size(rng: &mut Rng) -> Vec<Case> {
     let mut cases = Vec::new();
     for op in Op::ALL {
-        for words in [0, 14, 15, 16, 17, 18, 32] {
-            let mut case = sound(rng, op, 1024);
-            case.desc.resize(words, 0);
-            cases.push(case);
-        }
         for n in [0, 1, 1023, 1025, 1536, 2047, 2049, 16383, 16385, 17408, 32768] {
             let mut case = sound(rng, op, 1024);
             case.buf.resize(n, 5);
@@ -102,7 +97,7 @@ pub fn every_size(rng: &mut Rng) -> Vec<Case> {
 /// belong, for each look.
 pub fn every_descriptor(rng: &mut Rng) -> Vec<Case> {
     let mut cases = Vec::new();
-    for op in LOOKS {
+    for op in SENDS.into_iter().chain(RECEIVES) {
         for bit in 0..32 {
             let mut case = look(rng, op);
             case.desc[STATUS] = 1 << bit;
@@ -128,8 +123,22 @@ pub fn every_descriptor(rng: &mut Rng) -> Vec<Case> {
     cases
 }
 
+/// Each slice that a call is lent with no dwords in it, all else as it should be.
+pub fn every_empty(rng: &mut Rng) -> Vec<Case> {
+    let mut cases = Vec::new();
+    for op in Op::ALL {
+        let [mut ring, mut msg, mut out] = [0; 3].map(|_| sound(rng, op, 1024));
+        ring.buf.clear();
+        ring.state.n = 0;
+        msg.msg.clear();
+        out.out.clear();
+        cases.extend([ring, msg, out]);
+    }
+    cases
+}
+
 /// Sets a state's own offset, and the descriptor's with it where they must agree.
-fn set_own(case: &mut Case, own: u32) {
+pub(super) fn set_own(case: &mut Case, own: u32) {
     case.state.own = own;
     case.desc[if case.op.sends() { TAIL } else { HEAD }] = own;
 }
@@ -141,9 +150,10 @@ pub fn every_state(rng: &mut Rng) -> Vec<Case> {
     let mut changed = |rng: &mut Rng, op: Op, change: &dyn Fn(&mut Case)| {
         let mut case = sound(rng, op, 1024);
         change(&mut case);
+        cut_to_two(&mut case);
         cases.push(case);
     };
-    for op in Op::ALL.into_iter().filter(|op| *op != Op::Open) {
+    for op in Op::ALL.into_iter().filter(|op| !op.opens()) {
         let bit = rng.below(32);
         changed(rng, op, &|case| case.state.n ^= 1 << bit);
         changed(rng, op, &|case| case.state.n ^= 2048);
@@ -160,7 +170,8 @@ pub fn every_state(rng: &mut Rng) -> Vec<Case> {
         changed(rng, op, &|case| case.state.moved = case.state.len.saturating_sub(1));
     }
     for at in 0..256 {
-        let (op, bit) = (rng.pick(&LOOKS), rng.below(32));
+        let looks = [Op::SendLook, Op::SendWhole, Op::ReceiveLook, Op::ReceiveWhole];
+        let (op, bit) = (rng.pick(&looks), rng.below(32));
         changed(rng, op, &|case| case.state = State::idle(1024, case.state.own));
         changed(rng, op, &|case| case.state.copy[at] = 1 << bit);
     }

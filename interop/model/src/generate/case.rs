@@ -2,7 +2,7 @@
 //! state, then none, one or several things broken.
 
 use super::message::{malformed, near_malformed, well_formed};
-use super::state::{break_state, random_state, receiving, sending};
+use super::state::{break_place, break_state, random_state, receiving, sending};
 use super::{list::output, Rng};
 use crate::channel::{State, HEAD, STATUS, TAIL};
 use crate::run::{Case, Op};
@@ -23,7 +23,7 @@ pub fn disallowed_length(rng: &mut Rng) -> usize {
 }
 
 /// An offset below N, near the wrap more often.
-fn offset(rng: &mut Rng, n: usize) -> usize {
+pub(super) fn offset(rng: &mut Rng, n: usize) -> usize {
     match rng.below(5) {
         0 => rng.pick(&[0, 0, 1, n - 1]),
         1 | 2 => n - rng.between(1, 260.min(n as u64)) as usize,
@@ -61,7 +61,7 @@ pub(super) fn lay(buf: &mut [u32], at: usize, message: &[u32]) {
 }
 
 /// A 16-dword descriptor with STATUS 0; reserved words zeros or junk.
-fn descriptor(rng: &mut Rng, head: usize, tail: usize) -> Vec<u32> {
+pub(super) fn descriptor(rng: &mut Rng, head: usize, tail: usize) -> Vec<u32> {
     let mut desc = if rng.chance(1, 2) { vec![0; 16] } else { rng.words(16) };
     desc[HEAD] = head as u32;
     desc[TAIL] = tail as u32;
@@ -104,9 +104,6 @@ pub(super) fn sound(rng: &mut Rng, op: Op, n: usize) -> Case {
 /// Breaks the descriptor's words: STATUS, or an offset at least N, or one that
 /// no longer agrees, or the ring emptied.
 fn break_descriptor(rng: &mut Rng, case: &mut Case) {
-    if case.desc.len() != 16 {
-        return;
-    }
     let n = case.buf.len().max(1) as u32;
     let side = rng.pick(&[HEAD, TAIL]);
     match rng.below(9) {
@@ -137,23 +134,27 @@ fn break_buffer(rng: &mut Rng, case: &mut Case) {
     }
 }
 
-/// Breaks one thing. The message and the output only where they are judged.
+/// Breaks one thing. The message and the output only where they are judged. The
+/// descriptor keeps its 16 dwords: C can lend no other.
 fn break_one(rng: &mut Rng, case: &mut Case) {
-    match rng.below(11) {
-        0 => {
-            let length = rng.pick(&[0usize, 1, 2, 3, 14, 15, 17, 18, 20]);
-            let filler = rng.word();
-            case.desc.resize(length, filler);
-        }
-        1 => break_buffer(rng, case),
-        2 | 3 => break_state(rng, &mut case.state, case.op.sends(), case.op.goes_on()),
-        4 => case.state = random_state(rng, case.buf.len() as u32),
-        5 if case.op.sends() => case.msg = malformed(rng),
-        5 | 6 if !case.op.sends() => {
+    match rng.below(10) {
+        0 => break_buffer(rng, case),
+        1 | 2 if case.op.on_two() => break_place(rng, &mut case.state),
+        1 | 2 => break_state(rng, &mut case.state, case.op.sends(), case.op.goes_on()),
+        3 => case.state = random_state(rng, case.buf.len() as u32),
+        4 if case.op.sends() => case.msg = malformed(rng),
+        4 | 5 if !case.op.sends() => {
             let length = rng.pick(&[0usize, 1, 2, 254, 255, 255]);
             case.out = rng.words(length);
         }
         _ => break_descriptor(rng, case),
+    }
+}
+
+/// Where the side is one of two words, all of its state but those goes.
+pub(super) fn cut_to_two(case: &mut Case) {
+    if case.op.on_two() {
+        case.state = State::idle(case.state.n, case.state.own);
     }
 }
 
@@ -165,6 +166,7 @@ pub fn case_for(rng: &mut Rng, op: Op) -> Case {
     for _ in 0..breaks {
         break_one(rng, &mut case);
     }
+    cut_to_two(&mut case);
     case
 }
 

@@ -30,47 +30,51 @@ fn to_send(rng: &mut Rng, free: u64) -> Vec<u32> {
     }
 }
 
-/// The next operation of the sender; `looks` of sixteen calls are stepped.
+/// The next step of the sender, or a whole send; `looks` of sixteen calls are
+/// stepped.
 fn next_send(rng: &mut Rng, plain: &Plain, looks: u64) -> Operation {
     let dice = rng.below(16);
+    let a_move = if rng.chance(1, 5) { Operation::SendMoveAll } else { Operation::SendMove };
     match plain.sending() {
-        None if dice == 0 => Operation::SendMove,
+        None if dice == 0 => a_move,
         None if dice == 1 => Operation::SendPublish,
         None if dice < 2 + looks => Operation::SendLook(to_send(rng, plain.free())),
-        Some((k, length)) if k < length && dice < 13 => Operation::SendMove,
+        Some((k, length)) if k < length && dice < 13 => a_move,
         Some((k, length)) if k == length && dice < 11 => Operation::SendPublish,
         Some(_) if dice == 13 => Operation::SendPublish,
         Some(_) if dice == 14 => Operation::SendLook(to_send(rng, plain.free())),
-        Some(_) if dice < 14 => Operation::SendMove,
+        Some(_) if dice < 14 => a_move,
         _ => Operation::SendWhole(to_send(rng, plain.free())),
     }
 }
 
-/// The next operation of the receiver; `looks` as above.
+/// The next step of the receiver, or a whole receive; `looks` as above.
 fn next_receive(rng: &mut Rng, plain: &Plain, looks: u64) -> Operation {
     let dice = rng.below(16);
+    let a_move = if rng.chance(1, 5) { Operation::ReceiveMoveAll } else { Operation::ReceiveMove };
     match plain.receiving() {
-        None if dice == 0 => Operation::ReceiveMove,
+        None if dice == 0 => a_move,
         None if dice == 1 => Operation::ReceivePublish(output(rng)),
         None if dice < 2 + looks => Operation::ReceiveLook,
-        Some((k, length)) if k < length && dice < 13 => Operation::ReceiveMove,
+        Some((k, length)) if k < length && dice < 13 => a_move,
         Some((k, length)) if k == length && dice < 11 => Operation::ReceivePublish(output(rng)),
         Some(_) if dice == 13 => Operation::ReceivePublish(output(rng)),
         Some(_) if dice == 14 => Operation::ReceiveLook,
-        Some(_) if dice < 14 => Operation::ReceiveMove,
+        Some(_) if dice < 14 => a_move,
         _ => Operation::ReceiveWhole(output(rng)),
     }
 }
 
-/// Whether an operation is a move, of which bursts are made.
+/// Whether an operation is a single move, of which bursts are made.
 fn is_move(operation: &Operation) -> bool {
     matches!(operation, Operation::SendMove | Operation::ReceiveMove)
 }
 
-/// A list of about `count` operations for a channel opened over this buffer.
-/// Phases lean towards one side, so that the ring fills and drains; moves come
-/// in bursts, so that long messages get through.
-pub fn operations(rng: &mut Rng, buffer: &[u32], count: usize) -> Vec<Operation> {
+/// A list of about `count` operations for a channel opened over this buffer, with
+/// a sender and a receiver of two words where `two` says so. Phases lean towards
+/// one side, so that the ring fills and drains; moves come in bursts, so that long
+/// messages get through.
+pub fn operations(rng: &mut Rng, buffer: &[u32], count: usize, two: [bool; 2]) -> Vec<Operation> {
     let mut plain = Plain::new(buffer);
     let mut list = Vec::new();
     let mut lean = 4;
@@ -79,10 +83,11 @@ pub fn operations(rng: &mut Rng, buffer: &[u32], count: usize) -> Vec<Operation>
         if rng.chance(1, 24) {
             lean = rng.pick(&[1, 2, 4, 6, 7]);
         }
-        let operation = if rng.chance(lean, 8) {
-            next_send(rng, &plain, looks)
-        } else {
-            next_receive(rng, &plain, looks)
+        let operation = match (rng.chance(lean, 8), two) {
+            (true, [true, _]) => Operation::SendWhole(to_send(rng, plain.free())),
+            (true, _) => next_send(rng, &plain, looks),
+            (false, [_, true]) => Operation::ReceiveWhole(output(rng)),
+            (false, _) => next_receive(rng, &plain, looks),
         };
         let burst = if is_move(&operation) { rng.pick(&[1, 1, 2, 5, 40, 256]) } else { 1 };
         for _ in 0..burst {

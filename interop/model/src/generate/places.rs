@@ -34,7 +34,7 @@ fn placed(rng: &mut Rng, op: Op, length: usize, left: usize) -> Case {
 /// some short ones too; and every length at some place around the end.
 pub fn every_place(rng: &mut Rng) -> Vec<Case> {
     let mut cases = Vec::new();
-    for op in [Op::SendWhole, Op::ReceiveWhole] {
+    for op in [Op::SendWhole, Op::ReceiveWhole, Op::SendTwo, Op::ReceiveTwo] {
         for length in [2, 3, 4, 5, 17, 256] {
             cases.extend((1..length + 2).map(|left| placed(rng, op, length, left)));
         }

@@ -7,7 +7,13 @@ use crate::message::UNKNOWN;
 
 /// An active state over this message, `moved` dwords on; only the first
 /// `copied` dwords are in the copy, junk or zeros after them.
-fn active(rng: &mut Rng, n: u32, own: u32, message: &[u32], copied: usize, moved: u32) -> State {
+pub(super) fn active(
+    rng: &mut Rng,
+    (n, own): (u32, u32),
+    message: &[u32],
+    copied: usize,
+    moved: u32,
+) -> State {
     let mut state = State { len: message.len() as u32, moved, ..State::idle(n, own) };
     state.copy[..copied].copy_from_slice(&message[..copied]);
     if rng.chance(1, 4) && copied < 256 {
@@ -37,7 +43,7 @@ fn progress(rng: &mut Rng, least: u64, length: u64, publishes: bool) -> u32 {
 pub fn sending(rng: &mut Rng, n: u32, own: u32, publishes: bool) -> State {
     let message = well_formed(rng);
     let moved = progress(rng, 0, message.len() as u64, publishes);
-    active(rng, n, own, &message, message.len(), moved)
+    active(rng, (n, own), &message, message.len(), moved)
 }
 
 /// A fitting receiver's state, mid-call, with the whole message it copies:
@@ -46,7 +52,7 @@ pub fn receiving(rng: &mut Rng, n: u32, own: u32, publishes: bool) -> (State, Ve
     let bad = rng.chance(1, 4);
     let message = if bad { near_malformed(rng) } else { well_formed(rng) };
     let moved = progress(rng, 1, message.len() as u64, publishes);
-    (active(rng, n, own, &message, moved as usize, moved), message)
+    (active(rng, (n, own), &message, moved as usize, moved), message)
 }
 
 /// A wholly random state, some of its words plausible.
@@ -66,7 +72,7 @@ pub fn random_state(rng: &mut Rng, n: u32) -> State {
 }
 
 /// Breaks N or the own offset, whatever the state is.
-fn break_place(rng: &mut Rng, state: &mut State) {
+pub(super) fn break_place(rng: &mut Rng, state: &mut State) {
     let n = state.n;
     match rng.below(4) {
         0 => state.n = rng.pick(&[n ^ 1024, n ^ 2048, 0, n ^ 1, n ^ 1 << 31, n ^ 1 << 16, 1024]),
