@@ -3,16 +3,14 @@
  * HuC CPD firmware images.
  *
  * ANSWERS ARE POSITIVE. 0 is accepted, and every refusal is a number above 0 of enum guc_number:
- * `if (ret < 0)` never fires, write `if (ret)`. The compiler warns of an answer that nobody looks
- * at.
+ * `if (ret < 0)` never fires, write `if (ret)`. A compiler warns where nobody looks at an answer.
  *
  * Every function is total: it answers any contents and any counts, it never aborts, and it keeps
  * nothing between calls; there is no hidden state and no allocation. Where several numbers apply,
  * the lowest is given, but 22 is tested before 21, and a part inside a directory is judged only
  * after the directory itself; 101 is judged before all others, 100 after them.
  *
- * "Changes" below names everything a call may change. What it doesn't name is left as it was,
- * also on a refusal.
+ * "Changes" below names everything a call may change; the rest stays, also on a refusal.
  *
  * WHAT THE CALLER SUPPLIES (docs/INTEGRATION.md says why)
  *
@@ -37,8 +35,8 @@
 #ifndef GUC_H
 #define GUC_H
 
-#if !defined(__x86_64__) || defined(_WIN32)
-#error "libguc is made for x86-64 with the System V calling convention"
+#if !defined(__x86_64__) || defined(_WIN32) || !defined(__GNUC__)
+#error "libguc is made for x86-64 with the System V calling convention, gcc or clang"
 #endif
 
 #ifdef __KERNEL__
@@ -52,13 +50,16 @@
 extern "C" {
 #endif
 
-/* An answer that is not looked at is a mistake. */
-#if defined(__GNUC__)
+/* An answer must be looked at. What is kept stays in each object, also where a linker drops what
+ * nobody calls (gcc 11, clang 13 and later). */
 #define GUC_ANSWER __attribute__((warn_unused_result))
+#ifdef __has_attribute
+#if __has_attribute(retain)
+#define GUC_KEPT __attribute__((used, retain))
+#endif
+#endif
+#ifndef GUC_KEPT
 #define GUC_KEPT __attribute__((used))
-#else
-#define GUC_ANSWER
-#define GUC_KEPT
 #endif
 
 /* The version of this interface, and a function of the archive that has it in its name: an object
@@ -138,10 +139,12 @@ enum guc_type {
 enum guc_origin { GUC_ORIGIN_HOST = 0, GUC_ORIGIN_GUC = 1 };
 
 /* Components of a CSS image, in their order after the 128-byte header. */
-enum guc_component { GUC_PART_UCODE = 0, GUC_PART_RSA = 1, GUC_PART_MODULUS = 2, GUC_PART_EXPONENT = 3 };
+enum guc_component {
+	GUC_PART_UCODE = 0, GUC_PART_RSA = 1, GUC_PART_MODULUS = 2, GUC_PART_EXPONENT = 3
+};
 
-/* The words both sides share. reserved is never judged, and changed by an opening alone, which
- * zeroes it. */
+/* The words both sides share. reserved is never read, and changed by an opening alone, which
+ * zeroes it. Looks and whole calls read the three others; stores, copies and publishes none. */
 struct guc_descriptor {
 	uint32_t head;   /* next dword to read */
 	uint32_t tail;   /* next dword to write */
@@ -165,8 +168,8 @@ static inline uint32_t guc_receiver_len(const struct guc_receiver *r) { return r
 static inline uint32_t guc_receiver_moved(const struct guc_receiver *r) { return r->words[3]; }
 
 /* A side that makes whole calls only. Between them it is always idle, so that these two words are
- * all of it, and its calls are the fastest. They are the library's too. (Of no side may two
- * copies be used: that would be two senders.) */
+ * all of it, and its calls are the fastest. A fresh channel's is { n, 0 }. (Of no side, of either
+ * kind, may two copies be used: that would be two senders.) */
 struct guc_whole_sender { uint32_t n, own; };   /* the N it was made for, its own tail */
 struct guc_whole_receiver { uint32_t n, own; }; /* the N it was made for, its own head */
 
