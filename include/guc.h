@@ -178,13 +178,11 @@ struct guc_received {
 	uint32_t code;
 	size_t len; /* L */
 };
-
 struct guc_packed {
 	uint32_t code;
 	uint32_t header; /* the CTB header */
 	uint32_t word;   /* HXG dword 0 */
 };
-
 struct guc_unpacked {
 	uint32_t code;
 	uint32_t origin;     /* enum guc_origin */
@@ -208,7 +206,6 @@ struct guc_copied {
 	uint32_t code, truncated; /* truncated also beside 100 */
 	size_t len;               /* 0: bytes copied; 100: bytes needed */
 };
-
 struct guc_version { uint32_t code, major, minor, patch; };
 struct guc_manifest { uint32_t code, major, minor, hotfix, build; };
 
