@@ -2,11 +2,11 @@
 use Prim.Native.Nat.{ℕ, zero, suc, _+_, _-_, _%_, _≤_, _<_}
 use mathlib.Core.Path.{_≡_, refl, sym, ap, _∙_}
 use mathlib.Core.Bool.{Bool, true}
-use mathlib.Core.List.{List, [], _∷_, _++_, append-assoc}
+use mathlib.Core.List.{List, [], _++_, append-assoc}
 use native.Mathlib.Omega.{arith}
 use native.Mathlib.Numerals.{add-one}
 use lib.ListN.{length, getD, set, take, drop, take-append-drop, length-append, List·getD-append, length-drop}
-use lib.Seq.{append-snoc, drop-cons, getD-drop, getD-take, length-take-le, set-at}
+use lib.Seq.{drop-cons, getD-drop, getD-take, length-take-le, set-at}
 use lib.Dec.{leb}
 use borrow.Author.Tests.{le-leb, lt-ltb, ne-eqb}
 use Rattle.ring.specs.Numbers.{firstNeeds, need}
@@ -105,6 +105,7 @@ module _ (s : State) (d b : List ℕ) where
         let q : s .moved + k + 1 ≡ s .moved + (k + 1) = omega arith in
         rw (z, stored-length b (length b) place (take k m), p, q, ← getD-drop (s .moved) (s .copy) k 0, stored-take b (length b) place m k l, ← add-one k)
 
+    -- all that is left of the copy lies in the buffer, and is counted
     pub all-sent :
         Send.moveAll s d b
         ≡ record {
@@ -172,6 +173,7 @@ module _ (s : State) (d b : List ℕ) where
         let q : s .moved + k + 1 ≡ s .moved + (k + 1) = omega arith in
         rw (receive-number k (omega arith), copied-more k (omega arith), q)
 
+    -- all that is left of the message lies in the copy, and is counted
     pub all-taken :
         Receive.moveAll s d b
         ≡ record {

@@ -1,33 +1,24 @@
 -- Laws of a state in words: what a change of the words is to the state. Assumes nothing.
-use Prim.Native.Nat.{ℕ, zero, suc, _+_, _-_, _%_, _≤_, _<_, _^_}
+use Prim.Native.Nat.{ℕ, zero, suc, _+_, _-_, _≤_}
 use mathlib.Core.Path.{_≡_, refl, sym, ap, _∙_}
-use mathlib.Core.Bool.{true, false, _||_}
-use mathlib.Core.List.{List, [], _∷_, _++_}
-use native.Mathlib.Nat.{mod-lt}
+use mathlib.Core.Bool.{true}
+use mathlib.Core.List.{List, [], _∷_, _++_, append-nil}
 use native.Mathlib.Omega.{arith}
-use mathlib.Core.List.{append-nil}
 use lib.ListN.{length, getD, set, take, drop, replicate, drop-of-length-le, length-take, length-drop}
 use lib.Seq.{drop-drop, getD-drop}
 use borrow.Rule.Slice.PartMut.{midOf, putMid}
 use lib.Dec.{eqb}
 use borrow.Author.Tests.{eqb-true}
-use Rattle.message.proofs.Tests.{and-l, and-r, cases}
+use Rattle.message.proofs.Tests.{and-l, and-r}
 use Rattle.channel.specs.State.{State, state, countsOf, counted, zeros, allZero, idleAt, idle, activeSend, activeReceive}
-use Rattle.ring.specs.AtOnce.{AtOnce, wholeEnd, wholeSend, sendBy, wholeReceive, receiveBy, receiveNumber, lengthAt}
-use Rattle.ring.specs.declared.sending.WholeEnd.{WholeEnd}
 use Rattle.message.specs.Header.{totalLength}
 use Rattle.ring.specs.Ring.{HEAD}
-use Rattle.ring.specs.Numbers.{marked, numberAt, takeDecision}
+use Rattle.ring.specs.Numbers.{marked}
 use Rattle.channel.specs.Steps.{pastMessage}
 use Rattle.channel.specs.Send
 use Rattle.channel.specs.Receive
 use Rattle.side.specs.Words.{stateOf, inWords}
 use Rattle.runs.proofs.Straight.{drop-replicate, put-front}
-use Rattle.ring.proofs.Chains.{true-false}
-use Rattle.ring.proofs.Taken.{taken-has, take-not-13}
-use Rattle.channel.proofs.ReceiveAtOnce.{receive-method}
-use Rattle.channel.proofs.SendAtOnce.{send-method}
-use Rattle.ring.proofs.Sent.{Accepted, accepted}
 
 -- 260 words are four numbers and a copy
 pub four :

@@ -1,11 +1,11 @@
--- What is left of a message, stored or copied at once with the state in words: the laws of `store_left` and `copy_left`. Assumes nothing.
+-- What is left of a message, stored or copied at once with the state in words: it comes to the moves one after another. Assumes nothing.
 use Prim.Native.Nat.{ℕ, suc, _+_, _-_, _%_, _≤_, _<_}
-use mathlib.Core.Path.{_≡_, refl, sym, ap, _∙_}
+use mathlib.Core.Path.{_≡_, refl, sym, _∙_}
 use mathlib.Core.List.{List, [], _∷_, _++_}
 use native.Mathlib.Nat.{mod-lt, mod-mod}
 use native.Mathlib.Omega.{arith}
 use lib.ListN.{length, getD, set, take, drop, length-set, length-take, length-drop}
-use lib.Seq.{drop-cons, drop-drop}
+use lib.Seq.{drop-cons}
 use Rattle.runs.specs.Buffer.{filledFrom, past, stored, storedAt, window}
 use Rattle.runs.specs.TwoRuns.{withRun}
 use Rattle.runs.proofs.Offsets.{past-is}
@@ -63,7 +63,7 @@ module _ (b m : List ℕ) (own len : ℕ) (l : own < length b) (low : 2 ≤ len)
       (rw z at s) ∙ rw (past-is (length b) own 1 l (omega arith) o, part-cons m len 1 f (omega arith), q)
 
 -- 260 words have a copy that is as long as any message
-copy-long : (w : List ℕ) → length w ≡ 260 → length (stateOf w .copy) ≡ 256
+pub copy-long : (w : List ℕ) → length w ≡ 260 → length (stateOf w .copy) ≡ 256
 unfolding stateOf
 copy-long w h = simp length-drop (omega arith)
 
@@ -83,6 +83,7 @@ copied-set xs = four (Copied xs)
     let y : suc (suc (suc (suc moved))) + length xs ≡ suc (suc (suc (suc len))) = omega arith in
     rw (z, y))
 
+-- what the code leaves in the words and in the lent memory is what all the moves give
 module _ (w d b : List ℕ) (h : length w ≡ 260) where
   abbrev s : State
   s = stateOf w

@@ -1,20 +1,16 @@
 -- `sending::store_left` meets its contract: what is left begins with the first dword, with the second, or behind them. Assumes nothing.
 use Prim.Native.Nat.{_-_}
-use mathlib.Core.Path.{_≡_, _∙_}
+use mathlib.Core.Path.{_∙_}
 use native.Mathlib.Omega.{arith}
-use lib.ListN.{length, take, drop, length-drop}
+use lib.ListN.{take, drop}
 use denote.Ref.{now}
 use borrow.Author.Needs.{needs}
 use Rattle.runs.proofs.Straight.{to-end}
 use Rattle.side.specs.Words.{stateOf}
 use Rattle.side.proofs.InWords.{copy-at}
-use Rattle.side.proofs.Left.{part-length, stored-all, stored-past, stored-second}
+use Rattle.side.proofs.Left.{copy-long, part-length, stored-all, stored-past, stored-second}
 use Rattle.side.proofs.sending.store_left.Statement.{statement}
 use Rattle.side.proofs.sending.store_left.Tie as tie
-
--- the copy is as long as any message
-copy-length : (p : tie.Start) → length (drop 4 (now (p .args .w))) ≡ 256
-copy-length p = simp length-drop (omega arith)
 
 returns : tie.Need-returns
 unfolding stateOf
@@ -22,7 +18,7 @@ returns c =
     let start = c .before .before .before .before .before .before .before .before .before in
     let a = start .args in
     let w = now (a .w) in
-    let f = copy-length start in
+    let f = copy-long w (start .pre .0) in
     let e = rw (to-end, start .pre .1 ∙ copy-at 0 w, start .pre .2 ∙ copy-at 1 w) at (c .before .before .store-message .ensures .0) in
     rw (c .before .before .before .before .before .if1 .taken)
     (e ∙ stored-all (now (a .buf)) (drop 4 w) (a .own) (a .len) (omega arith) (omega arith) (omega arith) (omega arith) (omega arith))
@@ -34,7 +30,7 @@ returns-2 c =
     let start = stored-one .before .before .before .before .before .before .before .before in
     let a = start .args in
     let w = now (a .w) in
-    let f = copy-length start in
+    let f = copy-long w (start .pre .0) in
     let p = stored-one .before .past .ensures .0 in
     let p₂ = c .before .before .before .before .past2 .ensures .0 in
     let e = rw (to-end, stored-one .put .ensures, p, p₂, start .pre .2 ∙ copy-at 1 w) at (c .before .before .store-dwords .ensures) in
@@ -47,7 +43,7 @@ returns-3 c =
     let start = c .before .before .before .before .before .before .before .before .before .before .before in
     let a = start .args in
     let m = drop 4 (now (a .w)) in
-    let f = copy-length start in
+    let f = copy-long (now (a .w)) (start .pre .0) in
     let e = rw (to-end, c .before .before .before .before .past3 .ensures .0) at (c .before .before .store-dwords2 .ensures) in
     let l = part-length m (a .len) (a .moved) (omega arith) in
     e ∙ stored-past (now (a .buf)) (a .own) (a .moved) (take (a .len - a .moved) (drop (a .moved) m)) (omega arith) (omega arith) (omega arith) (omega arith)
