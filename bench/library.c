@@ -1,5 +1,4 @@
 // The library's ways to send and to receive, and its reader: compiled once for each archive, which is WHO, and linked with it alone.
-// ALL says that the archive has the calls that move all dwords that are left.
 #include "blocks.h"
 #include "firmware.h"
 #include "guc.h"
@@ -84,7 +83,6 @@ static struct way library_ways[] = {
     {.name = WHO ":steps", .start = words_start, ROUNDS_OF(steps), .begun = words_begun, .store = words_store, .copy = words_copy, .only = 16},
 };
 
-#ifdef ALL
 static uint32_t all_send(const uint32_t *m)
 {
     uint32_t c = guc_send_look(SENDER, DESC, buf, N, m, L);
@@ -101,7 +99,6 @@ static struct guc_received all_receive(void)
 }
 ROUNDS_BY(all, all_send(m), all_receive())
 static struct way all_way = {.name = WHO ":all", .start = words_start, ROUNDS_OF(all)};
-#endif
 
 static uint32_t judge(void)
 {
@@ -131,8 +128,6 @@ static struct reader library_reader = {WHO ":reader", {judge_block, locate_block
 __attribute__((constructor)) static void enlist_library(void)
 {
     for (size_t i = 0; i < sizeof library_ways / sizeof *library_ways; i++) enlist(library_ways + i);
-#ifdef ALL
     enlist(&all_way);
-#endif
     enlist_reader(&library_reader);
 }

@@ -26,16 +26,16 @@
  * - One call at a time on one side. The two sides of a channel may run on different processors:
  *   guc_live.h has the calls for that, with their fences.
  *
- * The proofs are of memory that nobody else writes while a call runs. A side, a descriptor's
- * words of one's own and what a call writes must have it so. Where somebody writes other lent
- * memory meanwhile, this holds, and is tested on each archive and not proved: each word that a
- * call judges is read once, and what was judged is what is stored, handed out or answered, so
- * nothing outside the slices is touched. The dwords of a message behind its second, and copied
- * bytes, are those that lie there when they are copied. */
+ * The proofs are of memory that nobody else writes while a call runs. A side, an output, a
+ * destination and the word of the descriptor that a side publishes must have it so. Where
+ * somebody writes other lent memory meanwhile, this holds, and is tested on each archive and not
+ * proved: each word that a call judges is read once, and what was judged is what is stored, handed
+ * out or answered, so nothing outside the slices is touched. The dwords of a message behind its
+ * second, and copied bytes, are those that lie there when they are copied. */
 #ifndef GUC_H
 #define GUC_H
 
-#if !defined(__x86_64__) || defined(_WIN32) || !defined(__GNUC__)
+#if !defined(__x86_64__) || defined(__ILP32__) || defined(_WIN32) || !defined(__GNUC__)
 #error "libguc is made for x86-64 with the System V calling convention, gcc or clang"
 #endif
 
@@ -63,7 +63,7 @@ extern "C" {
 #endif
 
 /* The version of this interface, and a function of the archive that has it in its name: an object
- * compiled with a header of another version does not link. */
+ * compiled with a header of another version does not link. (Of 1, which had no such name, it does.) */
 #define GUC_INTERFACE 2
 uint32_t guc_interface_2(void);
 static uint32_t (*const guc_interface_linked)(void) GUC_KEPT = guc_interface_2;

@@ -14,7 +14,9 @@
  *   Stores and copies touch none at all, and a publish only the word it writes.
  *
  * Side, message and output are the caller's own, as guc.h asks. A channel is
- * opened by guc_open or guc_whole_open while the other side stands still.
+ * opened by guc_open or guc_whole_open while the other side stands still, and
+ * GUC_FENCE_FULL() comes before it is told. STATUS both sides may set: where they
+ * do at once, the later value stays, and it is never good again by that.
  *
  * THE ORDER that the other side sees, whatever the compiler and the processor do:
  *
@@ -53,25 +55,22 @@ extern "C" {
  *
  * For write-combined memory the fences must be instructions: rmb() (lfence) behind
  * the load in GUC_LOAD_ACQUIRE, and GUC_FENCE_RELEASE wmb() (sfence), or mb() if
- * we also receive. The defaults below are for write-back memory: on x86-64 the
- * first three hold the compiler, and the processor keeps their order by itself.
+ * we also receive; a word that the other side polls needs GUC_FENCE_FULL() behind
+ * each call too, or it may stay in the buffer. The defaults below are for
+ * write-back memory: on x86-64 the first three hold the compiler, and the
+ * processor keeps their order by itself.
  */
-#ifndef GUC_LOAD_ACQUIRE
+#if defined(GUC_LOAD_ACQUIRE) + defined(GUC_STORE_WORD) + defined(GUC_FENCE_RELEASE) + defined(GUC_FENCE_FULL) == 4
+/* a kernel's own */
+#elif defined(GUC_LOAD_ACQUIRE) || defined(GUC_STORE_WORD) || defined(GUC_FENCE_RELEASE) || defined(GUC_FENCE_FULL)
+#error "define all four of GUC_LOAD_ACQUIRE, GUC_STORE_WORD, GUC_FENCE_RELEASE and GUC_FENCE_FULL, or none"
+#else
 /* The 32-bit word at p, read once and before all that follows. */
 #define GUC_LOAD_ACQUIRE(p) __atomic_load_n((p), __ATOMIC_ACQUIRE)
-#endif
-
-#ifndef GUC_STORE_WORD
 /* The 32-bit word at p is v, by one store. */
 #define GUC_STORE_WORD(p, v) __atomic_store_n((p), (v), __ATOMIC_RELAXED)
-#endif
-
-#ifndef GUC_FENCE_RELEASE
 /* All reads and writes before it come before all writes behind it. */
 #define GUC_FENCE_RELEASE() __atomic_thread_fence(__ATOMIC_RELEASE)
-#endif
-
-#ifndef GUC_FENCE_FULL
 /* The caller's, behind a publish: that write comes before all that follows, also
  * before a read of whether the other side sleeps. Not used in this file. */
 #define GUC_FENCE_FULL() __atomic_thread_fence(__ATOMIC_SEQ_CST)

@@ -17,6 +17,8 @@ def main():
             if not any(block[1].strip("\n") in program for program in programs):
                 line = text.count("\n", 0, block.start()) + 1
                 sys.exit(f"{paper}:{line}: this C stands in no program of interop/examples")
+    if not found:
+        sys.exit("there is no block of C in the papers")
     print(f"{found} blocks of C in the papers")
 
 

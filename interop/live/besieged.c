@@ -20,6 +20,10 @@ static inline void recorded_store(uint32_t *at, uint32_t value)
 	__atomic_store_n(at, value, __ATOMIC_RELAXED);
 }
 #define GUC_STORE_WORD(p, v) recorded_store((p), (v))
+/* the others as they are by default */
+#define GUC_LOAD_ACQUIRE(p) __atomic_load_n((p), __ATOMIC_ACQUIRE)
+#define GUC_FENCE_RELEASE() __atomic_thread_fence(__ATOMIC_RELEASE)
+#define GUC_FENCE_FULL() __atomic_thread_fence(__ATOMIC_SEQ_CST)
 
 #include "siege.h"
 

@@ -15,6 +15,7 @@ static void hooked_store(uint32_t *at, uint32_t value);
 #define GUC_LOAD_ACQUIRE(p) hooked_load(p)
 #define GUC_STORE_WORD(p, v) hooked_store((p), (v))
 #define GUC_FENCE_RELEASE() hooked_fence()
+#define GUC_FENCE_FULL() __atomic_thread_fence(__ATOMIC_SEQ_CST)
 
 #include "live_calls.h"
 

@@ -1,13 +1,15 @@
 -- A half-whole call is the moves that are left, one after another. Assumes nothing.
-use Prim.Native.Nat.{ℕ, zero, suc}
+use Prim.Native.Nat.{ℕ, zero, suc, _≤_}
 use mathlib.Core.Path.{_≡_, refl, ap, _∙_}
 use mathlib.Core.Bool.{false}
 use mathlib.Core.List.{List, [], _∷_, _++_}
 use lib.Dec.{eqb}
+use lib.ListN.{length}
 use borrow.Author.Tests.{eqb-true, ne-eqb}
 use Rattle.message.proofs.Tests.{cases}
 use Rattle.channel.specs.Outcome.{Outcome}
 use Rattle.channel.specs.Steps.{allMovesBy, atFirst, moves}
+use Rattle.channel.proofs.AllMoves.{all-sent, all-taken}
 use Rattle.channel.specs.Operations.{Side, theSender, theReceiver, gives}
 use Rattle.delivery.specs.Operations.{Channel, Seen, end, run, seen, stateOn, withNext}
 use Rattle.delivery.specs.HalfWhole.{HalfWhole, goesOn, halfWhole, left, moveOf, movesOf, standsFor}
@@ -69,10 +71,16 @@ last side x k z e =
     let h : halfWhole side x ≡ later side (suc k) (first side x) = accepted side x z ∙ ap (λ (j : ℕ). later side j (first side x)) e in
     rw h (rw (same-channel side x) at s)
 
-none : (side : Side) (x : Channel) → goesOn side x ≡ 0 → left side x ≡ 0 → halfWhole side x .code ≡ 0
-unfolding moves
-none side x z e = ap (λ (r : Outcome). r .code) (accepted side x z ∙ ap (λ (j : ℕ). later side j (first side x)) e)
+answers :
+    (side : Side) (x : Channel) → goesOn side x ≡ 0 → stateOn side x .len ≤ length (stateOn side x .copy)
+    → (halfWhole side x .code ≡ 0) × (halfWhole side x .next .moved ≡ stateOn side x .len)
+answers theSender x z l =
+    let e = all-sent (x .sender) (x .desc) (x .buf) z l in
+    (ap (λ (r : Outcome). r .code) e, ap (λ (r : Outcome). r .next .moved) e)
+answers theReceiver x z l =
+    let e = all-taken (x .receiver) (x .desc) (x .buf) z l in
+    (ap (λ (r : Outcome). r .code) e, ap (λ (r : Outcome). r .next .moved) e)
 
 pub half-whole : HalfWhole
 half-whole =
-    record { leaves = leaves; refused = λ side x n. refuses side x (ne-eqb _ 0 n) .1; none = none; last = last }
+    record { leaves = leaves; refused = λ side x n. refuses side x (ne-eqb _ 0 n) .1; accepted = answers; last = last }

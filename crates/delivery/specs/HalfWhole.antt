@@ -1,11 +1,11 @@
 -- Half-whole calls: all the moves that are left of a message, in one call of its side. Such a call is those moves, so that a list of operations in which it stands
 -- is the list with these moves in its place, and demand 3, which is of every list, speaks of it already: of its stores and their places, and of what it leaves.
-use Prim.Native.Nat.{ℕ, suc, _-_}
+use Prim.Native.Nat.{ℕ, suc, _-_, _≤_}
 use mathlib.Core.Path.{_≡_}
 use mathlib.Core.Bool.{cond}
 use mathlib.Core.List.{List, [], _∷_, _++_}
 use lib.Dec.{eqb}
-use lib.ListN.{replicate}
+use lib.ListN.{length, replicate}
 use Rattle.channel.specs.Outcome.{Outcome}
 use Rattle.channel.specs.Send
 use Rattle.channel.specs.Receive
@@ -42,9 +42,11 @@ pub record HalfWhole : Type 0 where
   pub leaves : (side : Side) (x : Channel) → withNext side x (halfWhole side x) ≡ end x (standsFor side x)
   -- refused by 1, 2 or 3, it answers that number
   pub refused : (side : Side) (x : Channel) → (goesOn side x ≡ 0 → ⊥) → halfWhole side x .code ≡ goesOn side x
-  -- accepted with none left, it answers 0
-  pub none : (side : Side) (x : Channel) → goesOn side x ≡ 0 → left side x ≡ 0 → halfWhole side x .code ≡ 0
-  -- else what is seen of it is what is seen of the last of those moves
+  -- accepted, it answers 0, and all of the message is moved, where the copy has room for it (a side's copy has 256 dwords)
+  pub accepted :
+      (side : Side) (x : Channel) → goesOn side x ≡ 0 → stateOn side x .len ≤ length (stateOn side x .copy)
+      → (halfWhole side x .code ≡ 0) × (halfWhole side x .next .moved ≡ stateOn side x .len)
+  -- with some left, what is seen of it is what is seen of the last of those moves
   pub last :
       (side : Side) (x : Channel) (k : ℕ) → goesOn side x ≡ 0 → left side x ≡ suc k
       → run x (movesOf side k) ++ (seen (halfWhole side x) ∷ []) ≡ run x (movesOf side (suc k))

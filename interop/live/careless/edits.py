@@ -45,6 +45,11 @@ EDITS = [
      "guc_send_look(s, &own, ring, n, msg, msg_len);\n	guc_live_sent(desc, &own, code);\n"),
     ("receive_look_keeps_status", "guc_receive_look(r, &own, ring, n);\n" + LOOKED, "guc_receive_look(r, &own, ring, n);\n"),
     ("publish_reads", TO_PUBLISH, "	guc_live_words(desc, &own);\n" + TO_PUBLISH),
+    # What stands for the macros where nobody defines them: interop/live/defaults alone can tell.
+    ("default_load_plain", "__atomic_load_n((p), __ATOMIC_ACQUIRE)", "(*(p))"),
+    ("default_store_plain", "__atomic_store_n((p), (v), __ATOMIC_RELAXED)", "(*(p) = (v))"),
+    ("default_release_empty", "__atomic_thread_fence(__ATOMIC_RELEASE)", "((void)0)"),
+    ("default_full_is_release", "__atomic_thread_fence(__ATOMIC_SEQ_CST)", "__atomic_thread_fence(__ATOMIC_RELEASE)"),
     ("publish_on_12", TO_PUBLISH + "	if (code == GUC_OK)\n", TO_PUBLISH + "	if (code == GUC_OK || code == GUC_OUT_OF_TURN)\n"),
 ]
 

@@ -1,10 +1,10 @@
 -- `state::parts_zero` meets its contract: after k turns each join is 0 just where the first 2k dwords of its part are. Assumes nothing.
-use Prim.Native.Nat.{_+_, _-_, _*_, _≤_}
+use Prim.Native.Nat.{_-_, _*_, _≤_}
 use mathlib.Core.Path.{_≡_, refl, _∙_}
 use native.Mathlib.Omega.{arith}
 use lib.Dec.{eqb}
 use lib.Seq.{take-all}
-use lib.ListN.{length, take}
+use lib.ListN.{take}
 use denote.Ref.{now}
 use Rattle.channel.specs.State.{allZero}
 use Rattle.channel.proofs.Zeros.{joins-zero, pair-more}
