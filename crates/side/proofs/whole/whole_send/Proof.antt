@@ -1,9 +1,10 @@
 -- `whole::whole_send` meets its contract: its two words say whether it fits, and an accepted call moves its own offset. Assumes nothing.
 use Prim.Native.Nat.{_<_, _^_}
-use mathlib.Core.Path.{_≡_}
+use mathlib.Core.Path.{_≡_, ap, _∙_}
+use mathlib.Core.Bool.{Bool}
 use mathlib.Core.List.{[]}
 use native.Mathlib.Omega.{arith}
-use lib.ListN.{length}
+use lib.ListN.{length, getD}
 use denote.Ref.{now}
 use borrow.Author.Needs.{needs}
 use borrow.Author.Tests.{ne-eqb}
@@ -18,7 +19,11 @@ use Rattle.side.proofs.whole.whole_send.Tie as tie
 -- what the whole call at once says of the side in its words
 said : (q : tie.After-whole-send) → let a = q .before .before .before .before .before .before .before .before .before .before .args in wholeEnd (q .whole-send .result) (q .whole-send .last .1 .1 .0) (q .whole-send .last .1 .1 .1 .0) [] ≡ wholeSend (idle (length (now (a .buf))) (wholeOf (now (a .w)))) (wholeOf (now (a .w)) .own) (now (a .msg)) (now (a .desc)) (now (a .buf))
 unfolding wholeOf
-said q = rw (q .before .before .before .fits-whole .ensures, q .before .before .before .before .numbers-of .ensures .0, q .before .before .before .before .numbers-of .ensures .1) at (q .whole-send .ensures)
+said q =
+    let a = q .before .before .before .before .before .before .before .before .before .before .args in
+    let k = q .before .before .before .before .numbers-of .ensures in
+    let fits = rw (k .0, k .1) at (q .before .before .before .fits-whole .ensures) in
+    (rw (k .1) at (q .whole-send .ensures)) ∙ ap (λ (t : Bool). wholeSend t (getD (now (a .w)) 1 0) (now (a .msg)) (now (a .desc)) (now (a .buf))) fits
 
 cast-w : tie.Need-cast-w
 cast-w c =
