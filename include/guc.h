@@ -31,7 +31,8 @@
  * somebody writes other lent memory meanwhile, this holds, and is tested on each archive and not
  * proved: each word that a call judges is read once, and what was judged is what is stored, handed
  * out or answered, so nothing outside the slices is touched. The dwords of a message behind its
- * second, and copied bytes, are those that lie there when they are copied. */
+ * second, and copied bytes, are those that lie there when they are copied; those in a ring that
+ * a send has stored in, whoever wrote there last. */
 #ifndef GUC_H
 #define GUC_H
 
