@@ -21,8 +21,15 @@ use Rattle.channel.proofs.ReceiveAtOnce.{receive-method}
 use Rattle.channel.proofs.SendAtOnce.{send-method}
 use Rattle.ring.proofs.Sent.{Accepted, accepted}
 
+-- what the code of a whole call answers and leaves, by the definition at once, from a state s
+abbrev pub SentAtOnce : State → List ℕ → List ℕ → List ℕ → WholeEnd → List ℕ → List ℕ → Type 0
+SentAtOnce s m d b r d′ b′ = wholeEnd r d′ b′ [] ≡ wholeSend (idle (length b) s) (s .own) m d b
+
+abbrev pub ReceivedAtOnce : State → List ℕ → List ℕ → List ℕ → WholeEnd → List ℕ → List ℕ → Type 0
+ReceivedAtOnce s o d b r d′ o′ = wholeEnd r d′ b o′ ≡ wholeReceive (idle (length b) s) (s .own) o d b
+
 -- a whole send
-module _ (s : State) (m d b : List ℕ) (r : WholeEnd) (d′ b′ : List ℕ) (e : wholeEnd r d′ b′ [] ≡ wholeSend (idle (length b) s) (s .own) m d b) where
+module _ (s : State) (m d b : List ℕ) (r : WholeEnd) (d′ b′ : List ℕ) (e : SentAtOnce s m d b r d′ b′) where
   number : r .code ≡ 0 → numberAt (idle (length b) s) (s .own) m d (length b) ≡ 0
   unfolding sendBy
   number z = sym (ap (λ (x : AtOnce). x .code) e) ∙ z
@@ -42,14 +49,16 @@ module _ (s : State) (m d b : List ℕ) (r : WholeEnd) (d′ b′ : List ℕ) (e
       omega (arith, o, mod-lt (s .own + length m) {m = length b} (omega arith), i .low, i .high)
 
   -- the state after it is idle at the own offset, or the one before it
-  pub sent-whole : r .code ≡ 0 → (x : State) → x ≡ idleAt (s .n) (r .own) → record { code = r .code; len = 0; next = x; desc = d′; buf = b′; out = [] } ≡ Send.whole s m d b
+  pub sent-whole :
+      r .code ≡ 0 → (x : State) → x ≡ idleAt (s .n) (r .own)
+      → record { code = r .code; len = 0; next = x; desc = d′; buf = b′; out = [] } ≡ Send.whole s m d b
   sent-whole z x q = rw (send-method s m d b (idle (length b) s) r d′ b′ refl e, z, q)
 
   pub sent-refused : eqb (r .code) 0 ≡ false → record { code = r .code; len = 0; next = s; desc = d′; buf = b′; out = [] } ≡ Send.whole s m d b
   sent-refused z = rw (send-method s m d b (idle (length b) s) r d′ b′ refl e, z)
 
 -- a whole receive
-module _ (s : State) (o d b : List ℕ) (r : WholeEnd) (d′ o′ : List ℕ) (e : wholeEnd r d′ b o′ ≡ wholeReceive (idle (length b) s) (s .own) o d b) where
+module _ (s : State) (o d b : List ℕ) (r : WholeEnd) (d′ o′ : List ℕ) (e : ReceivedAtOnce s o d b r d′ o′) where
   taken : ℕ
   taken = takeDecision (idle (length b) s) (s .own) (length o) d (length b) (getD b (s .own) 0)
 
@@ -75,7 +84,9 @@ module _ (s : State) (o d b : List ℕ) (r : WholeEnd) (d′ o′ : List ℕ) (e
       let q : r .own ≡ (s .own + lengthAt (s .own) b) % length b = rw c at (ap (λ (x : AtOnce). x .own) e) in
       omega (arith, q, mod-lt (s .own + lengthAt (s .own) b) {m = length b} (omega arith), i .low, i .high)
 
-  pub received-whole : (eqb (r .code) 0 || eqb (r .code) 13) ≡ true → (x : State) → x ≡ idleAt (s .n) (r .own) → record { code = r .code; len = r .len; next = x; desc = d′; buf = b; out = o′ } ≡ Receive.whole s o d b
+  pub received-whole :
+      (eqb (r .code) 0 || eqb (r .code) 13) ≡ true → (x : State) → x ≡ idleAt (s .n) (r .own)
+      → record { code = r .code; len = r .len; next = x; desc = d′; buf = b; out = o′ } ≡ Receive.whole s o d b
   received-whole z x q = rw (receive-method s o d b (idle (length b) s) r d′ o′ refl e, z, q)
 
   pub received-refused : (eqb (r .code) 0 || eqb (r .code) 13) ≡ false → record { code = r .code; len = r .len; next = s; desc = d′; buf = b; out = o′ } ≡ Receive.whole s o d b

@@ -18,7 +18,8 @@ inWords c l w d b o = record { code = c; len = l; next = stateOf w; desc = d; bu
 abbrev pub openedWords : ℕ → List ℕ → List ℕ → List ℕ → List ℕ → Opening
 openedWords c s r d b = record { code = c; sender = stateOf s; receiver = stateOf r; desc = d; buf = b }
 
--- a side that makes whole calls only is idle between them, and an idle state is nothing more than N and the own offset: its two dwords
+-- a side that makes whole calls only is idle between them, and an idle state, 'L = 0, moved = 0, copy all zeros', has only N and the own offset to keep: these two dwords and
+-- no others
 unfoldable pub wholeOf : List ℕ → State
 wholeOf w = idleAt (getD w 0 0) (getD w 1 0)
 

@@ -59,7 +59,17 @@ returns : tie.Need-returns Inv-loop μ-loop
 returns c =
     let l = c .before .loop in
     let a = c .before .before .before .before .before .before .args in
-    joins-zero (l .a) (l .b) (l .c) (l .d) ∙ rw (l .inv .1, l .inv .2, l .inv .3, l .inv .4, take-all (2 * l .k) (now (a .p)) (omega arith), take-all (2 * l .k) (now (a .q)) (omega arith), take-all (2 * l .k) (now (a .r)) (omega arith), take-all (2 * l .k) (now (a .t)) (omega arith))
+    joins-zero (l .a) (l .b) (l .c) (l .d)
+    ∙ rw (
+      l .inv .1,
+      l .inv .2,
+      l .inv .3,
+      l .inv .4,
+      take-all (2 * l .k) (now (a .p)) (omega arith),
+      take-all (2 * l .k) (now (a .q)) (omega arith),
+      take-all (2 * l .k) (now (a .r)) (omega arith),
+      take-all (2 * l .k) (now (a .t)) (omega arith),
+    )
 
 pub parts-zero-spec : {M : Type 1} → statement M
 parts-zero-spec =

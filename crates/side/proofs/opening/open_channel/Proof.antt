@@ -11,7 +11,8 @@ use Rattle.side.proofs.opening.open_channel.Tie as tie
 returns : tie.Need-returns
 unfolding openBy
 returns c =
-    simp (← c .before .before .before .before .before .open-number .ensures, ne-eqb _ _ (c .before .before .before .before .if1 .taken), c .before .before .make .ensures, c .make2 .ensures)
+    let r = c .before .before .before .before in
+    simp (← r .before .open-number .ensures, ne-eqb _ _ (r .if1 .taken), c .before .before .make .ensures, c .make2 .ensures)
 
 cast-n : tie.Need-cast-n
 cast-n c = omega (arith, open-high _ _ (sym (c .before .open-number .ensures) ∙ c .if1 .left))
@@ -19,9 +20,23 @@ cast-n c = omega (arith, open-high _ _ (sym (c .before .open-number .ensures) �
 returns-2 : tie.Need-returns-2
 unfolding openBy
 returns-2 c =
-    let sixteen = open-sixteen _ _ (sym (c .before .before .before .before .before .before .before .before .before .open-number .ensures) ∙ c .before .before .before .before .before .before .before .before .if1 .left) in
-    let opens = rw sixteen at (sym (c .before .before .before .before .before .before .before .before .before .open-number .ensures) ∙ c .before .before .before .before .before .before .before .before .if1 .left) in
+    let f = c .before .before .before .before .before .before .before .before in
+    let e = sym (f .before .open-number .ensures) ∙ f .if1 .left in
+    let sixteen = open-sixteen _ _ e in
+    let opens = rw sixteen at e in
     simp (c .before .before .before .before .before .before .clear .ensures, sixteen, opens, c .before .before .make3 .ensures, c .make4 .ensures)
 
 pub open-channel-spec : {M : Type 1} → statement M
-open-channel-spec = tie.close (tie.spec (λ c κs. search needs) (λ c κs. search needs) (λ c κs. search needs) returns cast-n (λ c κs. search needs) (λ c κs. search needs) (λ c κs. search needs) (λ c. search needs) returns-2)
+open-channel-spec =
+    tie.close
+    (tie.spec
+    (λ c κs. search needs)
+    (λ c κs. search needs)
+    (λ c κs. search needs)
+    returns
+    cast-n
+    (λ c κs. search needs)
+    (λ c κs. search needs)
+    (λ c κs. search needs)
+    (λ c. search needs)
+    returns-2)

@@ -7,38 +7,46 @@ use denote.Ref.{now}
 use borrow.Author.Needs.{needs}
 use borrow.Author.Tests.{ne-eqb}
 use Rattle.channel.specs.declared.state.Counts.{Counts}
-use Rattle.ring.specs.AtOnce.{wholeEnd, wholeSend}
-use Rattle.channel.specs.State.{idle}
 use Rattle.side.specs.Words.{stateOf}
 use Rattle.side.proofs.InWords.{idle-own, idle-words}
-use Rattle.side.proofs.Wholes.{sent-idle, sent-own, sent-whole, sent-refused}
-use mathlib.Core.List.{[]}
+use Rattle.side.proofs.Wholes.{SentAtOnce, sent-idle, sent-own, sent-whole, sent-refused}
 use Rattle.side.proofs.sending.send.Statement.{statement}
 use Rattle.side.proofs.sending.send.Tie as tie
 
--- what the whole call at once says of the state in the words
-said : (q : tie.After-whole-send) → let a = q .before .before .before .before .before .before .before .before .before .before .before .before .args in wholeEnd (q .whole-send .result) (q .whole-send .last .1 .1 .0) (q .whole-send .last .1 .1 .1 .0) [] ≡ wholeSend (idle (length (now (a .buf))) (stateOf (now (a .w)))) (stateOf (now (a .w)) .own) (now (a .msg)) (now (a .desc)) (now (a .buf))
-said q = rw (q .before .before .before .is-idle .ensures, ap (λ (x : Counts). x .own) (q .before .before .before .before .before .before .counts-of .ensures)) at (q .whole-send .ensures)
+-- where the call starts
+abbrev start : tie.After-whole-send → tie.Start
+start q = q .before .before .before .before .before .before .before .before .before .before .before .before
+
+-- what the whole call at once says of the side in its words
+said :
+    (q : tie.After-whole-send)
+    → let a = start q .args in
+    SentAtOnce (stateOf (now (a .w))) (now (a .msg)) (now (a .desc)) (now (a .buf)) (q .whole-send .result) (q .whole-send .last .1 .1 .0) (q .whole-send .last .1 .1 .1 .0)
+said q =
+    rw (q .before .before .before .is-idle .ensures, ap (λ (x : Counts). x .own) (q .before .before .before .before .before .before .counts-of .ensures))
+    at (q .whole-send .ensures)
 
 cast-w : tie.Need-cast-w
 cast-w c =
     let q = c .before .before .before .before .before .before .before in
-    let a = q .before .before .before .before .before .before .before .before .before .before .before .before .args in
-    let l : q .whole-send .result .own < 2 ^ 32 = sent-own (stateOf (now (a .w))) (now (a .msg)) (now (a .desc)) (now (a .buf)) (q .whole-send .result) _ _ (said q) (c .before .if1 .taken) in
+    let a = start q .args in
+    let l : q .whole-send .result .own < 2 ^ 32 =
+    sent-own (stateOf (now (a .w))) (now (a .msg)) (now (a .desc)) (now (a .buf)) (q .whole-send .result) _ _ (said q) (c .before .if1 .taken) in
     omega (arith, l)
 
 returns : tie.Need-returns
 returns c =
     let q = c .before .before .before .before .before .before .before in
-    let a = q .before .before .before .before .before .before .before .before .before .before .before .before .args in
+    let a = start q .args in
     let i = sent-idle (stateOf (now (a .w))) (now (a .msg)) (now (a .desc)) (now (a .buf)) (q .whole-send .result) _ _ (said q) (c .before .if1 .taken) in
     let h : length (now (a .w)) ≡ 260 = search needs in
-    sent-whole (stateOf (now (a .w))) (now (a .msg)) (now (a .desc)) (now (a .buf)) (q .whole-send .result) _ _ (said q) (c .before .if1 .taken) _ (idle-own (q .whole-send .result .own) (now (a .w)) h (idle-words (length (now (a .buf))) (now (a .w)) h i))
+    sent-whole (stateOf (now (a .w))) (now (a .msg)) (now (a .desc)) (now (a .buf)) (q .whole-send .result) _ _ (said q) (c .before .if1 .taken) _
+    (idle-own (q .whole-send .result .own) (now (a .w)) h (idle-words (length (now (a .buf))) (now (a .w)) h i))
 
 returns-2 : tie.Need-returns-2
 returns-2 c =
     let q = c .before .before .before .before .before .before in
-    let a = q .before .before .before .before .before .before .before .before .before .before .before .before .args in
+    let a = start q .args in
     sent-refused (stateOf (now (a .w))) (now (a .msg)) (now (a .desc)) (now (a .buf)) (q .whole-send .result) _ _ (said q) (ne-eqb _ _ (c .if1 .left))
 
 pub send-spec : {M : Type 1} → statement M

@@ -14,8 +14,12 @@ use Rattle.side.proofs.InWords.{moved-set, words-sending}
 use Rattle.side.proofs.sending.send_store.Statement.{statement}
 use Rattle.side.proofs.sending.send_store.Tie as tie
 
+-- where the call starts
+abbrev start : tie.After-sending-number → tie.Start
+start q = q .before .before .before .before .before .before .before .before .before
+
 -- the number is that of a move
-number : (q : tie.After-sending-number) → let a = q .before .before .before .before .before .before .before .before .before .args in q .sending-number .result ≡ Send.moveNumber (stateOf (now (a .w))) (now (a .desc)) (now (a .buf))
+number : (q : tie.After-sending-number) → let a = start q .args in q .sending-number .result ≡ Send.moveNumber (stateOf (now (a .w))) (now (a .desc)) (now (a .buf))
 unfolding Send.moveNumber
 number q = rw (q .before .before .before .before .counts-of .ensures, words-sending) at (q .sending-number .ensures)
 
@@ -24,15 +28,15 @@ unfolding Send.moveBy
 returns c = simp (← number (c .before), ne-eqb _ _ (c .if1 .taken))
 
 -- what a step that goes on has
-fits : (c : tie.Else1) → let a = c .before .before .before .before .before .before .before .before .before .before .args in Going (length (now (a .buf))) (stateOf (now (a .w)))
+fits : (c : tie.Else1) → let a = start (c .before) .args in Going (length (now (a .buf))) (stateOf (now (a .w)))
 unfolding Send.moveNumber
 fits c = going-send _ _ _ _ 0 refl refl refl (sym (number (c .before)) ∙ c .if1 .left)
 
-below : (c : tie.Else1) → let s = stateOf (now (c .before .before .before .before .before .before .before .before .before .before .args .w)) in s .moved < s .len
+below : (c : tie.Else1) → let s = stateOf (now (start (c .before) .args .w)) in s .moved < s .len
 unfolding Send.moveNumber
 below c = ltb-true _ _ (going-test _ _ _ _ (sym (number (c .before)) ∙ c .if1 .left))
 
-moved-is : (c : tie.Else1) → c .before .before .before .before .before .counts-of .result .moved ≡ stateOf (now (c .before .before .before .before .before .before .before .before .before .before .args .w)) .moved
+moved-is : (c : tie.Else1) → c .before .before .before .before .before .counts-of .result .moved ≡ stateOf (now (start (c .before) .args .w)) .moved
 moved-is c = ap (λ (x : Counts). x .moved) (c .before .before .before .before .before .counts-of .ensures)
 
 copy-dword-requires : tie.Need-copy-dword-requires
@@ -50,9 +54,19 @@ returns-2 : tie.Need-returns-2
 unfolding Send.moveBy
 returns-2 c =
     let e = c .before .before .before .before .before .before .before .before in
-    let w = now (e .before .before .before .before .before .before .before .before .before .before .args .w) in
+    let w = now (start (e .before) .args .w) in
     let own = ap (λ (x : Counts). x .own) (e .before .before .before .before .before .counts-of .ensures) in
-    simp (← number (e .before), e .if1 .left, c .before .before .put .ensures, c .before .before .before .past .ensures .0, own, c .before .before .before .before .before .copy-dword .ensures, moved-is e, going-place _ _ (fits e), moved-set (stateOf w .moved + 1) w (search needs))
+    simp (
+      ← number (e .before),
+      e .if1 .left,
+      c .before .before .put .ensures,
+      c .before .before .before .past .ensures .0,
+      own,
+      c .before .before .before .before .before .copy-dword .ensures,
+      moved-is e,
+      going-place _ _ (fits e),
+      moved-set (stateOf w .moved + 1) w (search needs),
+    )
 
 pub send-store-spec : {M : Type 1} → statement M
 send-store-spec =

@@ -11,7 +11,8 @@ use Rattle.side.proofs.whole.whole_open.Tie as tie
 returns : tie.Need-returns
 unfolding openBy
 returns c =
-    simp (← c .before .before .before .before .before .open-number .ensures, ne-eqb _ _ (c .before .before .before .before .if1 .taken), c .before .before .make-whole .ensures, c .make-whole2 .ensures)
+    let r = c .before .before .before .before in
+    simp (← r .before .open-number .ensures, ne-eqb _ _ (r .if1 .taken), c .before .before .make-whole .ensures, c .make-whole2 .ensures)
 
 cast-n : tie.Need-cast-n
 cast-n c = omega (arith, open-high _ _ (sym (c .before .open-number .ensures) ∙ c .if1 .left))
@@ -19,9 +20,23 @@ cast-n c = omega (arith, open-high _ _ (sym (c .before .open-number .ensures) �
 returns-2 : tie.Need-returns-2
 unfolding openBy
 returns-2 c =
-    let sixteen = open-sixteen _ _ (sym (c .before .before .before .before .before .before .before .before .before .open-number .ensures) ∙ c .before .before .before .before .before .before .before .before .if1 .left) in
-    let opens = rw sixteen at (sym (c .before .before .before .before .before .before .before .before .before .open-number .ensures) ∙ c .before .before .before .before .before .before .before .before .if1 .left) in
+    let f = c .before .before .before .before .before .before .before .before in
+    let e = sym (f .before .open-number .ensures) ∙ f .if1 .left in
+    let sixteen = open-sixteen _ _ e in
+    let opens = rw sixteen at e in
     simp (c .before .before .before .before .before .before .clear .ensures, sixteen, opens, c .before .before .make-whole3 .ensures, c .make-whole4 .ensures)
 
 pub whole-open-spec : {M : Type 1} → statement M
-whole-open-spec = tie.close (tie.spec (λ c κs. search needs) (λ c κs. search needs) (λ c κs. search needs) returns cast-n (λ c κs. search needs) (λ c κs. search needs) (λ c κs. search needs) (λ c. search needs) returns-2)
+whole-open-spec =
+    tie.close
+    (tie.spec
+    (λ c κs. search needs)
+    (λ c κs. search needs)
+    (λ c κs. search needs)
+    returns
+    cast-n
+    (λ c κs. search needs)
+    (λ c κs. search needs)
+    (λ c κs. search needs)
+    (λ c. search needs)
+    returns-2)
