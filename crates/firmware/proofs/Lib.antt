@@ -7,3 +7,4 @@ pub mod Read
 pub mod Nowhere
 pub mod Judged
 pub mod Inner
+pub mod Measured

@@ -3,4 +3,5 @@ pub mod Css
 pub mod Cpd
 pub mod Inside
 pub mod Version
+pub mod Figures
 pub mod Private

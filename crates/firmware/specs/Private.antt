@@ -8,6 +8,7 @@ use lib.Dec.{eqb, leb, ltb}
 use Rattle.firmware.specs.Bytes.{Span, dwordAt, nowhere, placed, then}
 use Rattle.firmware.specs.Css
 use Rattle.firmware.specs.Cpd
+use Rattle.firmware.specs.Figures.{directoryFigures}
 use Rattle.firmware.specs.Version.{Reading, reading, manifestVersion}
 use Rattle.firmware.specs.declared.bytes.Located.{Located}
 use Rattle.firmware.specs.declared.css.Sizes.{Sizes}
@@ -46,12 +47,13 @@ NameBy key len r = (name : List ℕ) → length name ≡ len → Keyed name key 
 unfoldable pub frontAt : List ℕ → ℕ → ℕ
 frontAt b at = dwordAt b at + 2 ^ 32 * dwordAt b (at + 4)
 
--- a directory's number, where its entries start and how many they are
+-- a directory's number, where its entries start and how many they are, and the bytes that the number asks for
 unfoldable pub tableOf : List ℕ → Table
 tableOf b = record {
   code = Cpd.directoryNumber b;
   start = cond (eqb (Cpd.directoryNumber b) 0) (Cpd.headerLength b) 0;
   count = cond (eqb (Cpd.directoryNumber b) 0) (Cpd.count b) 0;
+  needed = directoryFigures b .needed;
 }
 
 -- a part of a blob of n bytes, of an entry whose name is said to be shared or not: 22, then 21

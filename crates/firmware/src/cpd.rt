@@ -27,7 +27,7 @@ const COUNT_AT: usize = 4;
 const HEADER_LENGTH_AT: usize = 10;
 
 // 'An entry: name 12 bytes (zero padded), offset dword (bits 24:0 count), length dword, 4 reserved bytes.'
-const ENTRY_BYTES: usize = 24;
+pub(crate) const ENTRY_BYTES: usize = 24;
 
 const OFFSET_AT: usize = 12;
 
@@ -41,11 +41,18 @@ pub struct Directory {
     pub count: usize,
 }
 
-// A directory judged: 0 or its number, where its entries start and how many they are.
+// A directory judged: 0 or its number, where its entries start and how many they are, and the bytes that the number asks for.
 pub(crate) struct Table {
     pub code: u32,
     pub start: usize,
     pub count: usize,
+    pub needed: usize,
+}
+
+// Where an entry says that its part starts, and how long it is.
+pub(crate) struct Extent {
+    pub start: usize,
+    pub len: usize,
 }
 
 // Whether the first four bytes are the marker $CPD.
@@ -56,35 +63,38 @@ fn has_marker(blob: &[u8]) -> bool
     (blob[0] == 0x24) & (blob[1] == 0x43) & (blob[2] == 0x50) & (blob[3] == 0x44)
 }
 
-fn no_table(code: u32) -> Table
-    ensures { λ r. ⌜ r ≡ record { code = code; start = 0; count = 0 } ⌝ }
+fn no_table(code: u32, needed: usize) -> Table
+    ensures { λ r. ⌜ r ≡ record { code = code; start = 0; count = 0; needed = needed } ⌝ }
 {
     Table {
         code,
         start: 0,
         count: 0,
+        needed,
     }
 }
 
 // Judges the directory itself: 15, 18 and 19. One that is refused has no entries.
-fn read_table(blob: &[u8]) -> Table
+pub(crate) fn read_table(blob: &[u8]) -> Table
     ensures { λ r. ⌜ r ≡ tableOf (now (blob .entry)) ⌝ }
 {
     if blob.len() < HEADER_MIN {
-        return no_table(refusal::SHORT_BLOB);
+        return no_table(refusal::SHORT_BLOB, HEADER_MIN);
     }
     let start = wide(blob[HEADER_LENGTH_AT]);
     if !(has_marker(blob) & (HEADER_MIN <= start)) {
-        return no_table(refusal::CPD_HEADER);
+        return no_table(refusal::CPD_HEADER, 0);
     }
     let count = dword_at(blob, COUNT_AT);
-    if blob.len() < start + ENTRY_BYTES * count {
-        return no_table(refusal::CPD_ENTRIES);
+    let needed = start + ENTRY_BYTES * count;
+    if blob.len() < needed {
+        return no_table(refusal::CPD_ENTRIES, needed);
     }
     Table {
         code: 0,
         start,
         count,
+        needed,
     }
 }
 
@@ -135,8 +145,18 @@ fn part_located(n: usize, start: usize, len: usize, shared: bool) -> Located
     }
 }
 
-// Entry i of a judged directory, told whether another entry has the name sought too. Its offset and length are read once, and those are what is judged and
-// handed out.
+// The offset and the length in the entry that starts at byte `at`, each read once.
+pub(crate) fn extent_at(blob: &[u8], at: usize) -> Extent
+    requires { ⌜ at + 20 ≤ length (now blob) ⌝ }
+    ensures { λ r. ⌜ (r .start ≡ Cpd.offset (now (blob .entry)) at) × (r .len ≡ Cpd.size (now (blob .entry)) at) × (r .start < 2 ^ 25) × (r .len < 2 ^ 32) ⌝ }
+{
+    let start = dword_at(blob, at + OFFSET_AT) % OFFSET_LIMIT;
+    let len = dword_at(blob, at + LENGTH_AT);
+    Extent { start, len }
+}
+
+// Entry i of a judged directory, told whether another entry has the name sought too. The offset and the length that are read are what is
+// judged and handed out.
 fn entry_located(blob: &[u8], t: Table, i: usize, shared: bool) -> Located
     requires { ⌜ t ≡ tableOf (now blob) ⌝ }
     ensures { λ r. ⌜ r ≡ entryJudged (now (blob .entry)) i shared ⌝ }
@@ -148,10 +168,8 @@ fn entry_located(blob: &[u8], t: Table, i: usize, shared: bool) -> Located
     if t.count <= i {
         return refused(refusal::NO_ENTRY);
     }
-    let at = t.start + ENTRY_BYTES * i;
-    let start = dword_at(blob, at + OFFSET_AT) % OFFSET_LIMIT;
-    let len = dword_at(blob, at + LENGTH_AT);
-    part_located(blob.len(), start, len, shared)
+    let x = extent_at(blob, t.start + ENTRY_BYTES * i);
+    part_located(blob.len(), x.start, x.len, shared)
 }
 
 // The one judgement of a name sought in a directory: its number, and where its part lies. The second walk goes on behind the entry found, so each entry's

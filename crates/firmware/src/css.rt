@@ -15,7 +15,7 @@ use crate::bytes::refused;
 use crate::refusal;
 
 // 'CSS: at least 128 bytes': what the header has.
-const HEADER_BYTES: usize = 128;
+pub(crate) const HEADER_BYTES: usize = 128;
 
 // Where the dwords of the header that are read start: '1 = h (all that is not uCode), 6 = s (all), 7 = k (RSA), 8 = m (modulus), 9 = e (exponent),
 // 16 = version'.
@@ -46,7 +46,7 @@ pub struct ImageAnswer {
 }
 
 // The sizes in an image's header, in dwords.
-pub(crate) struct Sizes {
+pub struct Sizes {
     pub h: usize,
     pub s: usize,
     pub k: usize,
@@ -61,7 +61,7 @@ type Sum = u64;
 const HEADER_DWORDS: Sum = 32;
 
 // The sizes that a header says, each read once: what is judged and what is handed out are these numbers.
-fn read_sizes(blob: &[u8]) -> Sizes
+pub(crate) fn read_sizes(blob: &[u8]) -> Sizes
     requires { ⌜ 128 ≤ length (now blob) ⌝ }
     ensures { λ r. ⌜ (r ≡ Css.sizes (now (blob .entry))) × Small r ⌝ }
 {
@@ -81,7 +81,7 @@ fn summand(size: usize) -> Sum
 }
 
 // Whether the sizes agree.
-fn agree(z: Sizes) -> bool
+pub(crate) fn agree(z: Sizes) -> bool
     requires { ⌜ Small z ⌝ }
     ensures { λ r. ⌜ r ≡ Css.agree z ⌝ }
 {

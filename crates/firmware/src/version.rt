@@ -19,7 +19,7 @@ const HOTFIX_AT: usize = 40;
 
 const BUILD_AT: usize = 42;
 
-const MANIFEST_MIN: usize = 44;
+pub(crate) const MANIFEST_MIN: usize = 44;
 
 // The version of a CSS image, or the number that refuses it.
 pub enum Version {

@@ -1,17 +1,18 @@
 -- `cpd::read_table` meets its contract. Assumes nothing.
 use borrow.Author.Tests.{lt-ltb, le-ltb}
 use Rattle.firmware.specs.Cpd
+use Rattle.firmware.specs.Figures.{directoryFigures}
 use Rattle.firmware.specs.Private.{tableOf}
 use borrow.Author.Needs.{needs}
 use Rattle.firmware.proofs.cpd.read_table.Statement.{statement}
 use Rattle.firmware.proofs.cpd.read_table.Tie as tie
 
 returns : tie.Need-returns
-unfolding tableOf Cpd.directoryNumber
+unfolding tableOf Cpd.directoryNumber directoryFigures
 returns c = simp (lt-ltb _ _ (c .before .if1 .taken)) (c .no-table .ensures)
 
 returns-2 : tie.Need-returns-2
-unfolding tableOf Cpd.directoryNumber
+unfolding tableOf Cpd.directoryNumber directoryFigures
 returns-2 c =
     let at-wide = c .before .before .before in
     simp (
@@ -23,7 +24,7 @@ returns-2 c =
     (c .no-table2 .ensures)
 
 returns-3 : tie.Need-returns-3
-unfolding tableOf Cpd.directoryNumber
+unfolding tableOf Cpd.directoryNumber directoryFigures
 returns-3 c =
     let at-marker = c .before .before .before .before in
     let at-wide = at-marker .before in
@@ -38,7 +39,7 @@ returns-3 c =
     (c .no-table3 .ensures)
 
 returns-4 : tie.Need-returns-4
-unfolding tableOf Cpd.directoryNumber
+unfolding tableOf Cpd.directoryNumber directoryFigures
 returns-4 c =
     let at-marker = c .before .before .before in
     let at-wide = at-marker .before in
