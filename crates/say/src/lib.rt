@@ -1,0 +1,22 @@
+// The words that programs print: templates with numbers in them, one sentence for each number that says no, the ring's picture, and the versions and parts of
+// firmware files. Printing answers nothing, so the functions here have no more to promise than that they end and do nothing undefined.
+mod names;
+mod numbers;
+mod parts;
+mod picture;
+mod print;
+
+pub use names::quoted;
+pub use numbers::number;
+pub use numbers::sentence;
+pub use numbers::status;
+pub use parts::image_version;
+pub use parts::manifest_version;
+pub use parts::part;
+pub use picture::ring;
+pub use print::complaint;
+pub use print::either;
+pub use print::four;
+pub use print::one;
+pub use print::text;
+pub use print::two;

@@ -1,0 +1,51 @@
+// Versions and parts of firmware files in words.
+use crate::print::four;
+use crate::print::one;
+use firmware::Located;
+use firmware::ManifestVersion;
+use firmware::Version;
+
+// An image's version: three numbers, or the number that refuses it.
+pub fn image_version(v: Version) {
+    match v {
+        Version::Refused(code) => one(b"no version, by %", code as u64),
+        Version::Known {
+            major,
+            minor,
+            patch,
+        } => four(b"%.%.%", major as u64, minor as u64, patch as u64, 0),
+    }
+}
+
+// A manifest's: four.
+pub fn manifest_version(v: ManifestVersion) {
+    match v {
+        ManifestVersion::Refused(code) => one(b"no version, by %", code as u64),
+        ManifestVersion::Known {
+            major,
+            minor,
+            hotfix,
+            build,
+        } => {
+            four(
+                b"%.%.%.%",
+                major as u64,
+                minor as u64,
+                hotfix as u64,
+                build as u64,
+            )
+        }
+    }
+}
+
+// A part's place. It ends within the blob, so its end does not wrap.
+pub fn part(l: Located) {
+    let end = std::num::wrapping_add_usize(l.start, l.len);
+    four(
+        b"% to %, length %",
+        l.start as u64,
+        end as u64,
+        l.len as u64,
+        0,
+    );
+}
