@@ -1,100 +1,217 @@
-// Code partition directories: each entry with its part, and why a directory or an entry is refused.
-use crate::fields::dword_at;
-use crate::fields::entry_dword;
-use crate::fields::header_length;
-use crate::inside;
-use crate::names::show;
-use crate::names::trimmed;
-use crate::wording::number;
-use crate::wording::part;
-use crate::wording::shortage;
-use crate::wording::text;
+// Code partition directories: the verdict, each entry with its part, and the image in huc_fw.
+use crate::image;
+use crate::kinds;
+use crate::options::Expected;
+use crate::sharing;
+use crate::verdicts;
+use firmware::Component;
+use firmware::ManifestVersion;
 
-// A file with the marker $CPD.
-pub(crate) fn report(blob: &[u8]) {
+// So many entries are named; of more it is said how many there are.
+const NAMED_MOST: usize = 64;
+
+// A file with the marker $CPD: the directory, its manifest, all its entries and the image in huc_fw, in this order.
+pub(crate) fn verdict(blob: &[u8], expect: Expected) -> u32 {
     let d = firmware::cpd_directory(blob);
     if d.code != 0 {
-        text(b"a code partition directory that is refused\n");
-        refusal(d.code, blob);
-        return;
+        return verdicts::refused(d.code);
     }
-    number(b"a code partition directory, entries: ", d.count as u64);
-    text(b"\n");
-    every_entry(blob, d.count);
-    inside::manifest(blob);
-    inside::image(blob);
+    let m = firmware::manifest_figures(blob);
+    if m.code != 0 {
+        return verdicts::refused_part(b"HUCP.man", m.code);
+    }
+    if refused_entries(blob, 0, d.count) != 0 {
+        return verdicts::refused(21);
+    }
+    image_verdict(blob, expect)
 }
 
-// Why a directory is refused. Its marker is there, so 18 is for its header length.
-fn refusal(code: u32, blob: &[u8]) {
-    match code {
-        15 => shortage(
-            b"  15: a directory needs ",
-            20,
-            b" for its header",
-            b"the file",
-            blob.len(),
-        ),
-        18 => {
-            number(b"  18: the header length is ", header_length(blob) as u64);
-            text(b" and must be at least 20\n");
-        }
-        19 => {
-            let count = dword_at(blob, 4) as u64;
-            let start = header_length(blob) as u64;
-            number(b"  19: a header of ", start);
-            number(b" bytes and the entries, ", count);
-            shortage(
-                b" of 24 bytes, need ",
-                start + 24 * count,
-                b"",
-                b"the file",
-                blob.len(),
-            );
-        }
-        _ => {
-            number(b"  refused by ", code as u64);
-            text(b"\n");
+// Of the entries from one on, how many are refused; a count of entries does not wrap.
+fn refused_entries(blob: &[u8], from: usize, count: usize) -> usize {
+    let mut refused = 0;
+    for i in from..count {
+        let l = firmware::cpd_entry(blob, i);
+        if l.code != 0 {
+            refused = std::num::wrapping_add_usize(refused, 1);
         }
     }
+    refused
 }
 
-// Every entry, a line each.
-fn every_entry(blob: &[u8], count: usize) {
-    for i in 0..count {
-        entry(blob, i);
-    }
-}
-
-// An entry's name, and its part or why it has none. Entries are taken by their index, so that a list takes one pass: each line is that entry's own,
-// also where a seek of its name is refused, for another entry has it too.
-fn entry(blob: &[u8], i: usize) {
-    number(b"  entry ", i as u64);
-    text(b", \"");
-    show(trimmed(firmware::cpd_name(blob, i)));
-    text(b"\"");
-    let l = firmware::cpd_entry(blob, i);
-    let code = l.code;
+// A directory whose entries are good, by the image in huc_fw. Only two-step loading wants that image, so a directory without it is good.
+fn image_verdict(blob: &[u8], expect: Expected) -> u32 {
+    let f = firmware::huc_figures(blob);
+    let code = f.code;
     if code == 0 {
-        part(b": ", l);
+        return good(blob, expect);
+    }
+    if code == 20 {
+        return good(blob, expect);
+    }
+    if apart(blob, b"guc_sig", f.needed, f.there) {
+        return kinds::named(kinds::SIGNATURE_APART);
+    }
+    if apart(blob, b"HuC_CSS", 128, 0) {
+        return kinds::named(kinds::HEADER_APART);
+    }
+    verdicts::refused_part(b"huc_fw", code)
+}
+
+// Whether the part of that name has just the bytes that are missing.
+fn apart(blob: &[u8], name: &[u8], needed: usize, there: usize) -> bool {
+    let l = firmware::cpd_located(blob, name);
+    if needed < there {
+        return false;
+    }
+    (l.code == 0) & (0 < l.len) & (l.len == needed - there)
+}
+
+// A good directory, of the version that is expected or of another.
+fn good(blob: &[u8], expect: Expected) -> u32 {
+    let v = firmware::manifest_version(blob);
+    let met = meets(v, expect);
+    verdicts::start(if met {
+        verdicts::GOOD
     } else {
-        entry_refusal(code, blob, i);
+        verdicts::NOT_GOOD
+    });
+    say::text(b"HuC ");
+    say::manifest_version(v);
+    if !met {
+        image::unexpected(expect);
+        return verdicts::NOT_GOOD;
+    }
+    let f = firmware::huc_figures(blob);
+    if f.code == 0 {
+        image::left_out(f);
+    } else {
+        say::text(b" (without huc_fw: not for two-step loading)\n");
+    }
+    verdicts::GOOD
+}
+
+// Whether the version is the one that is expected, by its first three numbers or all four, or none is.
+fn meets(v: ManifestVersion, expect: Expected) -> bool {
+    match v {
+        ManifestVersion::Refused(_) => false,
+        ManifestVersion::Known {
+            major,
+            minor,
+            hotfix,
+            build,
+        } => {
+            let n = expect.numbers;
+            let same = (n[0] == major as u64) & (n[1] == minor as u64) & (n[2] == hotfix as u64);
+            let all = same & (n[3] == build as u64);
+            (expect.given == 0) | ((expect.given == 3) & same) | ((expect.given == 4) & all)
+        }
     }
 }
 
-// Why an entry is refused.
-fn entry_refusal(code: u32, blob: &[u8], i: usize) {
-    match code {
-        21 => {
-            let from = (entry_dword(blob, i, 12) % 0x200_0000) as u64;
-            number(b": 21: a part from ", from);
-            number(b" to ", from + entry_dword(blob, i, 16) as u64);
-            number(b" lies beyond the file, which has ", blob.len() as u64);
-            text(b" bytes\n");
+// The figures of a directory.
+pub(crate) fn figures(path: &[u8], blob: &[u8]) {
+    let d = firmware::cpd_directory(blob);
+    say::text(b"  file ");
+    say::quoted(path);
+    say::two(
+        b", % bytes, a code partition directory, entries: %\n",
+        blob.len() as u64,
+        d.count as u64,
+    );
+    if d.code == 0 {
+        entries(blob, d.count);
+        manifest(blob);
+        image(blob);
+    } else {
+        say::text(b"  ");
+        verdicts::shortage(firmware::cpd_figures(blob));
+    }
+}
+
+// The first entries, a line each, and how many more there are.
+fn entries(blob: &[u8], count: usize) {
+    for i in 0..NAMED_MOST {
+        if i < count {
+            entry(blob, i);
         }
-        _ => {
-            number(b": refused by ", code as u64);
-            text(b"\n");
+    }
+    if NAMED_MOST < count {
+        say::two(
+            b"  and % entries more, of which % are refused\n",
+            (count - NAMED_MOST) as u64,
+            refused_entries(blob, NAMED_MOST, count) as u64,
+        );
+    }
+}
+
+// An entry's name, and its part or why it has none. Each line is that entry's own, also where a seek of its name is refused, for another entry has it too.
+fn entry(blob: &[u8], i: usize) {
+    say::one(b"  entry %, ", i as u64);
+    say::quoted(trimmed(firmware::cpd_name(blob, i)));
+    let l = firmware::cpd_entry(blob, i);
+    if l.code == 0 {
+        say::text(b": ");
+        say::part(l);
+        say::text(b"\n");
+    } else {
+        refusal(firmware::cpd_entry_figures(blob, i));
+    }
+}
+
+// A number with its sentence and figures, to the end of the line.
+fn refusal(f: firmware::Figures) {
+    say::text(b": ");
+    say::number(f.code);
+    say::text(b" ");
+    verdicts::shortage(f);
+}
+
+// A name without its zero padding.
+fn trimmed(name: &[u8]) -> &[u8] {
+    let n = name_length(name);
+    if n <= name.len() { &name[0..n] } else { name }
+}
+
+// How many bytes a name has ahead of its zero padding.
+fn name_length(name: &[u8]) -> usize {
+    let mut n = name.len();
+    while 0 < n {
+        if name[n - 1] != 0 {
+            return n;
         }
+        n -= 1;
+    }
+    0
+}
+
+// The manifest's firmware version, or why there is none.
+fn manifest(blob: &[u8]) {
+    say::text(b"  manifest HUCP.man");
+    let f = firmware::manifest_figures(blob);
+    if f.code == 0 {
+        say::text(b": version ");
+        say::manifest_version(firmware::manifest_version(blob));
+        say::text(b"\n");
+    } else {
+        refusal(f);
+        sharing::shared(f.code, blob, b"HUCP.man");
+    }
+}
+
+// The image in huc_fw, which is judged as a blob of its own, with its parts' places in the file.
+fn image(blob: &[u8]) {
+    say::text(b"  image huc_fw");
+    let f = firmware::huc_figures(blob);
+    if f.code == 0 {
+        say::text(b": version ");
+        say::image_version(firmware::huc_version(blob));
+        image::left_out(f);
+        image::component(0, firmware::huc_located(blob, Component::Ucode));
+        image::component(1, firmware::huc_located(blob, Component::Rsa));
+        image::component(2, firmware::huc_located(blob, Component::Modulus));
+        image::component(3, firmware::huc_located(blob, Component::Exponent));
+    } else {
+        refusal(f);
+        sharing::shared(f.code, blob, b"huc_fw");
     }
 }

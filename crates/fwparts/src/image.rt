@@ -1,118 +1,167 @@
-// CSS images: what is said of a file that is one, and why another is not.
-use crate::fields::dword_at;
-use crate::wording::number;
-use crate::wording::part;
-use crate::wording::shortage;
-use crate::wording::text;
-use crate::wording::version;
+// CSS images: the verdict, and the figures behind it.
+use crate::kinds;
+use crate::options::Expected;
+use crate::verdicts;
+use crate::words::starts;
 use firmware::Component;
+use firmware::Version;
 
 // A file without the marker $CPD.
-pub(crate) fn report(blob: &[u8]) {
+pub(crate) fn verdict(path: &[u8], blob: &[u8], expect: Expected) -> u32 {
     let a = firmware::css_answer(blob);
-    let code = a.code;
-    if code == 0 {
-        text(b"a CSS image");
-        version(firmware::css_version(blob));
-        component(b"  uCode ", blob, Component::Ucode);
-        component(b"  RSA ", blob, Component::Rsa);
-        if a.truncated {
-            truncation(blob, b"the file");
-        } else {
-            component(b"  modulus ", blob, Component::Modulus);
-            component(b"  exponent ", blob, Component::Exponent);
-            surplus(blob);
+    if a.code == 0 {
+        return accepted(path, blob, expect);
+    }
+    let kind = kinds::of_image(blob, a.code);
+    if kind == kinds::FIRMWARE {
+        verdicts::refused(a.code)
+    } else {
+        kinds::named(kind)
+    }
+}
+
+// An image that is accepted, of the version that is expected or of another.
+fn accepted(path: &[u8], blob: &[u8], expect: Expected) -> u32 {
+    let v = firmware::css_version(blob);
+    if !meets(v, expect) {
+        verdicts::start(verdicts::NOT_GOOD);
+        firmware_of(path);
+        say::image_version(v);
+        unexpected(expect);
+        return verdicts::NOT_GOOD;
+    }
+    verdicts::start(verdicts::GOOD);
+    firmware_of(path);
+    say::image_version(v);
+    left_out(firmware::css_figures(blob));
+    verdicts::GOOD
+}
+
+// Whether the version is the one that is expected, or none is.
+fn meets(v: Version, expect: Expected) -> bool {
+    match v {
+        Version::Refused(_) => false,
+        Version::Known {
+            major,
+            minor,
+            patch,
+        } => {
+            let n = expect.numbers;
+            let same = (n[0] == major as u64) & (n[1] == minor as u64) & (n[2] == patch as u64);
+            (expect.given == 0) | ((expect.given == 3) & same)
         }
+    }
+}
+
+// The version that was expected instead.
+pub(crate) fn unexpected(expect: Expected) {
+    let n = expect.numbers;
+    if expect.given == 4 {
+        say::four(b", expected %.%.%.%\n", n[0], n[1], n[2], n[3]);
+    } else {
+        say::four(b", expected %.%.%\n", n[0], n[1], n[2], 0);
+    }
+}
+
+// What an accepted image has beside header, uCode and RSA; ends the line.
+pub(crate) fn left_out(f: firmware::Figures) {
+    let how = if f.there == f.needed {
+        0
+    } else if f.there < f.whole {
+        1
+    } else if f.there == f.whole {
+        2
+    } else {
+        3
+    };
+    say::line(
+        b" (modulus and exponent left out, as shipped)\n\
+          \x20(cut off within modulus and exponent)\n\
+          \x20(whole)\n\
+          \x20(whole, with bytes behind it that belong to no part)\n",
+        how,
+    );
+    say::text(b"\n");
+}
+
+// Whether 'guc' or 'huc' stands in the file's name. The header does not say which of the two it is.
+fn firmware_of(path: &[u8]) {
+    let mut which = 2;
+    for i in 0..path.len() {
+        if path[i] == b'/' {
+            which = 2;
+        }
+        if starts(&path[i..], b"guc") {
+            which = 0;
+        }
+        if starts(&path[i..], b"huc") {
+            which = 1;
+        }
+    }
+    say::line(b"GuC \nHuC \nfirmware \n", which);
+}
+
+// The figures of a file that is judged; of another its length.
+pub(crate) fn figures(path: &[u8], blob: &[u8], class: u32) {
+    say::text(b"  file ");
+    say::quoted(path);
+    say::one(b", % bytes\n", blob.len() as u64);
+    if class == verdicts::NOT_JUDGED {
         return;
     }
-    if code == 17 {
-        text(b"a CSS image that is cut short\n");
+    let f = firmware::css_figures(blob);
+    if f.code == 0 {
+        whole(f);
+        components(blob);
     } else {
-        text(b"neither a CSS image nor a code partition directory\n");
+        refusal(blob, f);
     }
-    refusal(code, blob, b"the file");
 }
 
-// A component's name and place.
-fn component(name: &[u8], blob: &[u8], which: Component) {
-    part(name, firmware::css_located(blob, which));
-}
-
-// The bytes of a whole image: 4s.
-fn whole_length(image: &[u8]) -> u64 {
-    4 * (dword_at(image, 24) as u64)
-}
-
-// Why a truncated image shows no modulus and no exponent.
-pub(crate) fn truncation(image: &[u8], whose: &[u8]) {
-    shortage(
-        b"  truncated, without modulus and exponent: the whole image needs ",
-        whole_length(image),
-        b"",
-        whose,
-        image.len(),
+// The bytes of a whole image, and those that are there.
+pub(crate) fn whole(f: firmware::Figures) {
+    say::four(
+        b"  a whole image has % bytes, header, uCode and RSA need %, here are %\n",
+        f.whole as u64,
+        f.needed as u64,
+        f.there as u64,
+        0,
     );
 }
 
-// Bytes past a whole image.
-pub(crate) fn surplus(image: &[u8]) {
-    let end = whole_length(image);
-    let there = image.len() as u64;
-    if end < there {
-        number(b"  whole, and ", there - end);
-        text(b" bytes past it that belong to no part\n");
+// Why an image is refused, in figures.
+pub(crate) fn refusal(image: &[u8], f: firmware::Figures) {
+    if f.code != 16 {
+        say::text(b"  ");
+        verdicts::shortage(f);
+        return;
+    }
+    let z = firmware::css_sizes(image);
+    say::two(b"  in dwords: h %, s %, ", z.h as u64, z.s as u64);
+    say::four(
+        b"k %, m %, e %; h must be 32 + k + m + e, k at least 1, s above h\n",
+        z.k as u64,
+        z.m as u64,
+        z.e as u64,
+        0,
+    );
+}
+
+// Where the components lie. One that is left out is the empty part at byte 0.
+fn components(blob: &[u8]) {
+    component(0, firmware::css_located(blob, Component::Ucode));
+    component(1, firmware::css_located(blob, Component::Rsa));
+    component(2, firmware::css_located(blob, Component::Modulus));
+    component(3, firmware::css_located(blob, Component::Exponent));
+}
+
+// A component's name and place.
+pub(crate) fn component(which: usize, l: firmware::Located) {
+    say::line(b"  uCode \n  RSA \n  modulus \n  exponent \n", which);
+    if l.start == 0 {
+        say::text(b"not in the file\n");
     } else {
-        text(b"  whole\n");
+        say::part(l);
+        say::text(b"\n");
     }
-}
-
-// The bytes up to the end of the RSA part: 128 + 4(s - h) + 4k.
-fn least_length(image: &[u8]) -> u64 {
-    let h = dword_at(image, 4);
-    let s = dword_at(image, 24);
-    let k = dword_at(image, 28);
-    if h < s {
-        128 + 4 * ((s - h) as u64) + 4 * (k as u64)
-    } else {
-        0
-    }
-}
-
-// Why an image is refused.
-pub(crate) fn refusal(code: u32, image: &[u8], whose: &[u8]) {
-    match code {
-        15 => shortage(
-            b"  15: an image needs ",
-            128,
-            b" for its header",
-            whose,
-            image.len(),
-        ),
-        16 => disagreement(image),
-        17 => shortage(
-            b"  17: the image needs ",
-            least_length(image),
-            b" for its header, uCode and RSA parts",
-            whose,
-            image.len(),
-        ),
-        _ => {
-            number(b"  refused by ", code as u64);
-            text(b"\n");
-        }
-    }
-}
-
-// The sizes in a header, and what they must be.
-fn disagreement(image: &[u8]) {
-    let k = dword_at(image, 28) as u64;
-    let m = dword_at(image, 32) as u64;
-    let e = dword_at(image, 36) as u64;
-    number(b"  16: the sizes disagree: h ", dword_at(image, 4) as u64);
-    number(b", s ", dword_at(image, 24) as u64);
-    number(b", RSA (k) ", k);
-    number(b", modulus (m) ", m);
-    number(b", exponent (e) ", e);
-    number(b" dwords; h must be 32 + k + m + e = ", 32 + k + m + e);
-    text(b", k at least 1 and s above h\n");
 }

@@ -1,96 +1,103 @@
-// Says what a firmware file is: a CSS image, a code partition directory or neither, with its parts and versions,
-// or the number that refuses it with what was needed and what is there.
+// For the crew: says of each firmware file whether it is good to load, with the figures behind the verdict, and writes out a part of a good one.
+// A program here has no exit status; the script ./fwparts takes it from the last line.
 mod directory;
-mod fields;
 mod image;
-mod inside;
-mod names;
+mod kinds;
+mod options;
+mod output;
+mod reading;
 mod sharing;
-mod wording;
+mod tally;
+mod verdicts;
+mod words;
 
-use wording::complaint;
-use wording::number;
-use wording::text;
-
-// Room for the longest file that is read, 2 MiB.
-fn room() -> [u8; 2097152] {
-    [0u8; 2097152]
-}
-
-// Whether the file ends after n bytes; where not, says why it was not read whole.
-fn ended(fd: i32, path: &[u8], n: usize) -> bool {
-    let mut next = [0u8; 1];
-    let got = libc::read(fd, &mut next);
-    if got < 0 {
-        os::fail(path);
-        return false;
-    }
-    if got == 0 {
-        return true;
-    }
-    complaint(path);
-    if n < 2097152 {
-        complaint(b": not read whole, try again\n");
-    } else {
-        complaint(b": longer than 2097152 bytes, which is as much as is read\n");
-    }
-    false
-}
+use options::Options;
+use tally::Tally;
 
 // What the bytes of a file are. The marker $CPD makes a file a directory, good or not.
-fn report(path: &[u8], blob: &[u8]) {
-    text(path);
-    number(b": ", blob.len() as u64);
-    text(b" bytes, ");
-    if fields::has_marker(blob) {
-        directory::report(blob);
+fn report(path: &[u8], blob: &[u8], o: Options) -> u32 {
+    if o.several {
+        say::quoted(path);
+        say::text(b": ");
+    }
+    if firmware::cpd_marker(blob) {
+        let class = directory::verdict(blob, o.expect);
+        if o.figures {
+            directory::figures(path, blob);
+        }
+        class
     } else {
-        image::report(blob);
+        let class = image::verdict(path, blob, o.expect);
+        if o.figures {
+            image::figures(path, blob, class);
+        }
+        class
     }
 }
 
-// Reads an open file into the room lent, and reports on it.
-fn read_and_report(fd: i32, path: &[u8], bytes: &mut [u8]) {
-    let n = io::read_full(fd, bytes);
-    if ended(fd, path, n) {
-        report(path, &bytes[..n]);
+// The verdict on the bytes of a file, and then a part of those bytes, where one is asked for and the file is good.
+fn judge(path: &[u8], blob: &[u8], o: Options) -> u32 {
+    let class = report(path, blob, o);
+    if class == verdicts::GOOD {
+        if o.part != 0 {
+            return output::part(blob, o.part, o.out);
+        }
+    }
+    class
+}
+
+// Reads an open file into the room lent, and judges what was read.
+fn read_and_judge(fd: i32, path: &[u8], room: &mut [u8], o: Options) -> u32 {
+    let n = io::read_full(fd, room);
+    if reading::ended(fd, path, n, room.len()) {
+        judge(path, &room[..n], o)
+    } else {
+        verdicts::NOT_READ
     }
 }
 
-// Reads an open file into room of its own, and reports on it.
-fn report_on(fd: i32, path: &[u8]) {
-    let mut bytes = room();
-    read_and_report(fd, path, &mut bytes);
+// An open file, read into room of its own.
+fn opened(fd: i32, path: &[u8], o: Options) -> u32 {
+    let mut room = reading::room();
+    read_and_judge(fd, path, &mut room, o)
 }
 
 // The file that argument i names.
-fn file(i: usize) {
+fn file(i: usize, o: Options) -> u32 {
     let mut path = io::buffer();
     let n = os::arg(i, &mut path);
     if os::errno() != 0 {
         os::fail(b"fwparts: the file's name");
-        return;
-    }
-    if n == 0 {
-        complaint(b"fwparts: the file's name is empty\n");
-        return;
+        return verdicts::NOT_READ;
     }
     let fd = os::open_read(&path[..n]);
     if fd < 0 {
-        os::fail(&path[..n]);
-        return;
+        reading::unread(&path[..n]);
+        return verdicts::NOT_READ;
     }
-    report_on(fd, &path[..n]);
+    let class = opened(fd, &path[..n], o);
     libc::close(fd);
+    class
+}
+
+// Every file, from the argument behind the options on.
+fn files(o: Options, count: usize) -> Tally {
+    let mut t = tally::none();
+    for i in o.at..count {
+        let class = file(i, o);
+        t = t.with(class);
+    }
+    t
 }
 
 fn main() {
-    let count = os::arg_count();
-    if count < 2 {
-        complaint(b"usage: fwparts FILE..\n");
+    let o = options::read();
+    if o.wrong {
+        say::complaint(
+            b"usage: fwparts [--figures] [--expect VERSION] [--part NAME --out FILE] FILE..\n",
+        );
+        say::text(b"fwparts: wrong usage\n");
         return;
     }
-    for i in 1..count {
-        file(i);
-    }
+    tally::last_line(files(o, os::arg_count()));
 }

@@ -1,6 +1,4 @@
 // A name that more than one entry of a directory has: which entries they are, and what to ask the supplier.
-use crate::wording::number;
-use crate::wording::text;
 
 // At most so many are named; of more it is said how many there are.
 const NAMED_MOST: usize = 8;
@@ -12,34 +10,30 @@ fn name_entry(blob: &[u8], i: usize, name: &[u8], before: usize) -> usize {
         return before;
     }
     if before < NAMED_MOST {
-        if before != 0 {
-            text(b",");
-        }
-        number(b" ", i as u64);
+        say::one(b" %", i as u64);
     }
     std::num::wrapping_add_usize(before, 1)
 }
 
 // Names the entries that have the name, and answers how many they are.
 fn name_entries(blob: &[u8], count: usize, name: &[u8]) -> usize {
-    let mut found = 0;
+    let mut sharers = 0;
     for i in 0..count {
-        found = name_entry(blob, i, name, found);
+        sharers = name_entry(blob, i, name, sharers);
     }
-    found
+    sharers
 }
 
-// What is said of 22.
-pub(crate) fn shared(blob: &[u8], name: &[u8]) {
-    text(b"22: more than one entry has that name: entries");
-    let d = firmware::cpd_directory(blob);
-    let found = name_entries(blob, d.count, name);
-    if NAMED_MOST < found {
-        number(b" and others, in all ", found as u64);
+// What is said of 22, and nothing of another number.
+pub(crate) fn shared(code: u32, blob: &[u8], name: &[u8]) {
+    if code != 22 {
+        return;
     }
-    text(
-        b"; none of them is used\n  ask the supplier which of them is meant, and for a file in which only that one is named ",
+    say::text(b"    entries");
+    let d = firmware::cpd_directory(blob);
+    let sharers = name_entries(blob, d.count, name);
+    say::one(
+        b" have it, % in all, and none is used: ask the supplier for a file with one\n",
+        sharers as u64,
     );
-    text(name);
-    text(b"\n");
 }

@@ -7,6 +7,7 @@ mod picture;
 mod print;
 
 pub use names::quoted;
+pub use numbers::line;
 pub use numbers::number;
 pub use numbers::sentence;
 pub use numbers::status;

@@ -53,7 +53,7 @@ pub fn status(s: u32) {
 }
 
 // Line k of a text, counted from 0; nothing where there is no such line.
-fn line(t: &[u8], k: usize) {
+pub fn line(t: &[u8], k: usize) {
     let mut from = 0;
     let mut at = 0;
     for i in 0..t.len() {

@@ -1,17 +1,17 @@
--- `main` ends: the argument's number rises to their count. Assumes nothing.
+-- `files` ends: the index rises to the count of arguments. Assumes nothing.
 use Prim.Native.Nat.{_-_, _≤_}
 use borrow.Author.Needs.{needs}
-use Rattle.fwparts.proofs.main.Statement.{statement}
-use Rattle.fwparts.proofs.main.Tie as tie
+use Rattle.fwparts.proofs.files.Statement.{statement}
+use Rattle.fwparts.proofs.files.Tie as tie
 
 abbrev Inv-loop : tie.InvT-loop
-Inv-loop count i₀ i = i ≤ count
+Inv-loop o count t₀ i₀ t i = 0 ≤ i
 
 abbrev μ-loop : tie.MeasureT-loop
-μ-loop count i₀ i = count - i
+μ-loop o count t₀ i₀ t i = count - i
 
-pub main-spec : {M : Type 1} → statement M
-main-spec =
+pub files-spec : {M : Type 1} → statement M
+files-spec =
     tie.close
     (tie.spec
     Inv-loop
@@ -19,8 +19,6 @@ main-spec =
     (λ c κs. search needs)
     (λ c. search needs)
     (λ c κs. search needs)
-    (λ c. search needs)
-    (λ c. search needs)
     (λ c κs. search needs)
     (λ c. search needs)
     (λ c. search needs)

@@ -1,9 +1,9 @@
--- `names::name_length` is safe and ends: the count falls and stays within the name. Assumes nothing.
+-- `directory::name_length` is safe and ends: the count falls and stays within the name. Assumes nothing.
 use Prim.Native.Nat.{_≤_}
 use lib.ListN.{length}
 use borrow.Author.Needs.{needs}
-use Rattle.fwparts.proofs.names.name_length.Statement.{statement}
-use Rattle.fwparts.proofs.names.name_length.Tie as tie
+use Rattle.fwparts.proofs.directory.name_length.Statement.{statement}
+use Rattle.fwparts.proofs.directory.name_length.Tie as tie
 
 abbrev Inv-loop : tie.InvT-loop
 Inv-loop name n₀ n = n ≤ length name

@@ -1,0 +1,117 @@
+// Files that are no firmware file that is judged here, named for what they are. The library judges first: what it accepts is never taken for one of these.
+ghost use Prim.Native.Nat.{_<_};
+use crate::verdicts;
+use crate::words::byte;
+use crate::words::starts;
+
+// The lines of `named`.
+const XZ: usize = 0;
+
+const ZSTD: usize = 1;
+
+const GZIP: usize = 2;
+
+const ELF: usize = 3;
+
+const TEXT: usize = 4;
+
+const EMPTY: usize = 5;
+
+const GSC: usize = 6;
+
+const OTHER: usize = 7;
+
+pub(crate) const SIGNATURE_APART: usize = 8;
+
+pub(crate) const HEADER_APART: usize = 9;
+
+// None of these.
+pub(crate) const FIRMWARE: usize = 10;
+
+// What a file of that kind is.
+pub(crate) fn named(kind: usize) -> u32 {
+    verdicts::start(verdicts::NOT_JUDGED);
+    say::line(
+        b"compressed by xz: unpack it first (xz -dk FILE)\n\
+          compressed by zstd: unpack it first (zstd -d FILE)\n\
+          compressed by gzip: unpack it first (gzip -dk FILE)\n\
+          an ELF program or object, not a firmware file\n\
+          text, not a firmware file\n\
+          an empty file\n\
+          a GSC image, which this version does not read\n\
+          not a file of GuC or HuC: neither their CSS header nor a code partition directory\n\
+          a HuC directory with the signature apart, in guc_sig: ask the office, the rules have no case for it\n\
+          a HuC directory with the CSS header apart, in HuC_CSS: ask the office, the rules have no case for it\n",
+        kind,
+    );
+    say::text(b"\n");
+    verdicts::NOT_JUDGED
+}
+
+// What a file is that the rules for images refuse by that number. One of GuC or HuC starts with the dword 6 (Linux: the CSS module type).
+pub(crate) fn of_image(blob: &[u8], code: u32) -> usize {
+    if blob.len() == 0 {
+        return EMPTY;
+    }
+    let foreign = compressed(blob);
+    if foreign != FIRMWARE {
+        return foreign;
+    }
+    if starts(blob, b"\x7fELF") {
+        return ELF;
+    }
+    if is_text(blob) {
+        return TEXT;
+    }
+    if code == 16 {
+        if !starts(blob, b"\x06\0\0\0") {
+            return if is_gsc(blob) { GSC } else { OTHER };
+        }
+    }
+    FIRMWARE
+}
+
+fn compressed(blob: &[u8]) -> usize {
+    if starts(blob, b"\xfd7zXZ\0") {
+        XZ
+    } else if starts(blob, b"\x28\xb5\x2f\xfd") {
+        ZSTD
+    } else if starts(blob, b"\x1f\x8b") {
+        GZIP
+    } else {
+        FIRMWARE
+    }
+}
+
+// Whether all of a file's first 64 bytes are ASCII text.
+fn is_text(blob: &[u8]) -> bool {
+    for i in 0..64 {
+        if i < blob.len() {
+            if !is_letter(blob[i]) {
+                return false;
+            }
+        }
+    }
+    true
+}
+
+// Printable, or a tab or the end of a line.
+fn is_letter(b: u8) -> bool {
+    ((0x20 <= b) & (b < 0x7f)) | (b == 9) | (b == 10) | (b == 13)
+}
+
+fn wide(b: u8) -> usize
+    ensures { λ r. ⌜ r < 256 ⌝ }
+{
+    b as usize
+}
+
+// A GSC image has the offset of Boot1 as the dword at byte 32, and there a partition table that starts AA 55 00 00 (document 02, T-05). Such an offset is
+// small: its highest byte is 0.
+fn is_gsc(blob: &[u8]) -> bool {
+    let at = wide(byte(blob, 32)) + 0x100 * wide(byte(blob, 33)) + 0x1_0000 * wide(byte(blob, 34));
+    if blob.len() < at {
+        return false;
+    }
+    starts(&blob[at..], b"\xaa\x55\0\0")
+}

@@ -1,0 +1,39 @@
+// Reading a file whole, or saying why not.
+use crate::verdicts;
+
+// Room for the longest file that is read: 4 MiB, of a stack of 8.
+pub(crate) fn room() -> [u8; 4194304] {
+    [0u8; 4194304]
+}
+
+// Whether an open file ends after n bytes of as much room; where not, says why it was not read whole.
+pub(crate) fn ended(fd: i32, path: &[u8], n: usize, room: usize) -> bool {
+    let mut next = [0u8; 1];
+    let got = libc::read(fd, &mut next);
+    if got == 0 {
+        return true;
+    }
+    if got < 0 {
+        unread(path);
+        return false;
+    }
+    verdicts::start(verdicts::NOT_READ);
+    say::quoted(path);
+    if n < room {
+        say::text(b": not read whole, try again\n");
+    } else {
+        say::one(
+            b": longer than % bytes, the most that is read\n",
+            room as u64,
+        );
+    }
+    false
+}
+
+// A file that cannot be opened or read; the reason goes to standard error.
+pub(crate) fn unread(path: &[u8]) {
+    os::fail(path);
+    verdicts::start(verdicts::NOT_READ);
+    say::quoted(path);
+    say::text(b"\n");
+}
