@@ -109,21 +109,18 @@ fn meets(v: ManifestVersion, expect: Expected) -> bool {
 }
 
 // The figures of a directory.
-pub(crate) fn figures(path: &[u8], blob: &[u8]) {
+pub(crate) fn figures(blob: &[u8]) {
     let d = firmware::cpd_directory(blob);
-    say::text(b"  file ");
-    say::quoted(path);
-    say::two(
-        b", % bytes, a code partition directory, entries: %\n",
-        blob.len() as u64,
-        d.count as u64,
-    );
     if d.code == 0 {
+        say::two(
+            b"  % bytes of a code partition directory, entries: %\n",
+            blob.len() as u64,
+            d.count as u64,
+        );
         entries(blob, d.count);
         manifest(blob);
         image(blob);
     } else {
-        say::text(b"  ");
         verdicts::shortage(firmware::cpd_figures(blob));
     }
 }
@@ -158,11 +155,11 @@ fn entry(blob: &[u8], i: usize) {
     }
 }
 
-// A number with its sentence and figures, to the end of the line.
+// A number with its sentence to the end of the line, and its figures.
 fn refusal(f: firmware::Figures) {
     say::text(b": ");
     say::number(f.code);
-    say::text(b" ");
+    say::text(b"\n");
     verdicts::shortage(f);
 }
 

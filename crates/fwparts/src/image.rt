@@ -7,10 +7,10 @@ use firmware::Component;
 use firmware::Version;
 
 // A file without the marker $CPD.
-pub(crate) fn verdict(path: &[u8], blob: &[u8], expect: Expected) -> u32 {
+pub(crate) fn verdict(blob: &[u8], which: usize, expect: Expected) -> u32 {
     let a = firmware::css_answer(blob);
     if a.code == 0 {
-        return accepted(path, blob, expect);
+        return accepted(blob, which, expect);
     }
     let kind = kinds::of_image(blob, a.code);
     if kind == kinds::FIRMWARE {
@@ -21,20 +21,22 @@ pub(crate) fn verdict(path: &[u8], blob: &[u8], expect: Expected) -> u32 {
 }
 
 // An image that is accepted, of the version that is expected or of another.
-fn accepted(path: &[u8], blob: &[u8], expect: Expected) -> u32 {
+fn accepted(blob: &[u8], which: usize, expect: Expected) -> u32 {
     let v = firmware::css_version(blob);
-    if !meets(v, expect) {
-        verdicts::start(verdicts::NOT_GOOD);
-        firmware_of(path);
-        say::image_version(v);
-        unexpected(expect);
-        return verdicts::NOT_GOOD;
-    }
-    verdicts::start(verdicts::GOOD);
-    firmware_of(path);
+    let class = if meets(v, expect) {
+        verdicts::GOOD
+    } else {
+        verdicts::NOT_GOOD
+    };
+    verdicts::start(class);
+    say::line(b"GuC \nHuC \nfirmware \n", which);
     say::image_version(v);
-    left_out(firmware::css_figures(blob));
-    verdicts::GOOD
+    if class == verdicts::GOOD {
+        left_out(firmware::css_figures(blob));
+    } else {
+        unexpected(expect);
+    }
+    class
 }
 
 // Whether the version is the one that is expected, or none is.
@@ -65,27 +67,28 @@ pub(crate) fn unexpected(expect: Expected) {
 
 // What an accepted image has beside header, uCode and RSA; ends the line.
 pub(crate) fn left_out(f: firmware::Figures) {
-    let how = if f.there == f.needed {
+    let how = if f.there == f.whole {
         0
-    } else if f.there < f.whole {
+    } else if f.whole < f.there {
         1
-    } else if f.there == f.whole {
+    } else if f.there == f.needed {
         2
     } else {
         3
     };
+    say::text(b" (");
     say::line(
-        b" (modulus and exponent left out, as shipped)\n\
-          \x20(cut off within modulus and exponent)\n\
-          \x20(whole)\n\
-          \x20(whole, with bytes behind it that belong to no part)\n",
+        b"whole\n\
+          whole, with bytes behind it that belong to no part\n\
+          modulus and exponent left out, as shipped\n\
+          cut off within modulus and exponent\n",
         how,
     );
-    say::text(b"\n");
+    say::text(b")\n");
 }
 
-// Whether 'guc' or 'huc' stands in the file's name. The header does not say which of the two it is.
-fn firmware_of(path: &[u8]) {
+// Which firmware the file's own name says, 'guc' or 'huc' in it: 0 for GuC, 1 for HuC, 2 for neither. The header does not say.
+pub(crate) fn firmware_named(path: &[u8]) -> usize {
     let mut which = 2;
     for i in 0..path.len() {
         if path[i] == b'/' {
@@ -98,45 +101,32 @@ fn firmware_of(path: &[u8]) {
             which = 1;
         }
     }
-    say::line(b"GuC \nHuC \nfirmware \n", which);
+    which
 }
 
 // The figures of a file that is judged; of another its length.
-pub(crate) fn figures(path: &[u8], blob: &[u8], class: u32) {
-    say::text(b"  file ");
-    say::quoted(path);
-    say::one(b", % bytes\n", blob.len() as u64);
-    if class == verdicts::NOT_JUDGED {
-        return;
-    }
+pub(crate) fn figures(blob: &[u8], class: u32) {
     let f = firmware::css_figures(blob);
-    if f.code == 0 {
-        whole(f);
+    if class == verdicts::NOT_JUDGED {
+        say::one(b"  % bytes\n", f.there as u64);
+    } else if f.code == 0 {
+        say::four(
+            b"  % bytes of a CSS image that has % when it is whole, and at least %\n",
+            f.there as u64,
+            f.whole as u64,
+            f.needed as u64,
+            0,
+        );
         components(blob);
+    } else if f.code == 16 {
+        sizes(firmware::css_sizes(blob));
     } else {
-        refusal(blob, f);
-    }
-}
-
-// The bytes of a whole image, and those that are there.
-pub(crate) fn whole(f: firmware::Figures) {
-    say::four(
-        b"  a whole image has % bytes, header, uCode and RSA need %, here are %\n",
-        f.whole as u64,
-        f.needed as u64,
-        f.there as u64,
-        0,
-    );
-}
-
-// Why an image is refused, in figures.
-pub(crate) fn refusal(image: &[u8], f: firmware::Figures) {
-    if f.code != 16 {
-        say::text(b"  ");
         verdicts::shortage(f);
-        return;
     }
-    let z = firmware::css_sizes(image);
+}
+
+// Sizes that disagree, and what they must be.
+fn sizes(z: firmware::Sizes) {
     say::two(b"  in dwords: h %, s %, ", z.h as u64, z.s as u64);
     say::four(
         b"k %, m %, e %; h must be 32 + k + m + e, k at least 1, s above h\n",

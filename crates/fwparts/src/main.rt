@@ -15,29 +15,25 @@ use options::Options;
 use tally::Tally;
 
 // What the bytes of a file are. The marker $CPD makes a file a directory, good or not.
-fn report(path: &[u8], blob: &[u8], o: Options) -> u32 {
-    if o.several {
-        say::quoted(path);
-        say::text(b": ");
-    }
+fn report(blob: &[u8], which: usize, o: Options) -> u32 {
     if firmware::cpd_marker(blob) {
         let class = directory::verdict(blob, o.expect);
         if o.figures {
-            directory::figures(path, blob);
+            directory::figures(blob);
         }
         class
     } else {
-        let class = image::verdict(path, blob, o.expect);
+        let class = image::verdict(blob, which, o.expect);
         if o.figures {
-            image::figures(path, blob, class);
+            image::figures(blob, class);
         }
         class
     }
 }
 
 // The verdict on the bytes of a file, and then a part of those bytes, where one is asked for and the file is good.
-fn judge(path: &[u8], blob: &[u8], o: Options) -> u32 {
-    let class = report(path, blob, o);
+fn judge(blob: &[u8], which: usize, o: Options) -> u32 {
+    let class = report(blob, which, o);
     if class == verdicts::GOOD {
         if o.part != 0 {
             return output::part(blob, o.part, o.out);
@@ -47,19 +43,21 @@ fn judge(path: &[u8], blob: &[u8], o: Options) -> u32 {
 }
 
 // Reads an open file into the room lent, and judges what was read.
-fn read_and_judge(fd: i32, path: &[u8], room: &mut [u8], o: Options) -> u32 {
+fn read_and_judge(fd: i32, room: &mut [u8], which: usize, o: Options) -> u32 {
     let n = io::read_full(fd, room);
-    if reading::ended(fd, path, n, room.len()) {
-        judge(path, &room[..n], o)
+    if reading::ended(fd, n, room.len()) {
+        judge(&room[..n], which, o)
     } else {
         verdicts::NOT_READ
     }
 }
 
 // An open file, read into room of its own.
-fn opened(fd: i32, path: &[u8], o: Options) -> u32 {
+fn opened(fd: i32, which: usize, o: Options) -> u32 {
     let mut room = reading::room();
-    read_and_judge(fd, path, &mut room, o)
+    let class = read_and_judge(fd, &mut room, which, o);
+    libc::close(fd);
+    class
 }
 
 // The file that argument i names.
@@ -70,14 +68,14 @@ fn file(i: usize, o: Options) -> u32 {
         os::fail(b"fwparts: the file's name");
         return verdicts::NOT_READ;
     }
+    if o.several {
+        reading::name(&path[..n]);
+    }
     let fd = os::open_read(&path[..n]);
     if fd < 0 {
-        reading::unread(&path[..n]);
-        return verdicts::NOT_READ;
+        return reading::unread();
     }
-    let class = opened(fd, &path[..n], o);
-    libc::close(fd);
-    class
+    opened(fd, image::firmware_named(&path[..n]), o)
 }
 
 // Every file, from the argument behind the options on.

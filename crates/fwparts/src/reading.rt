@@ -7,33 +7,35 @@ pub(crate) fn room() -> [u8; 4194304] {
 }
 
 // Whether an open file ends after n bytes of as much room; where not, says why it was not read whole.
-pub(crate) fn ended(fd: i32, path: &[u8], n: usize, room: usize) -> bool {
+pub(crate) fn ended(fd: i32, n: usize, room: usize) -> bool {
     let mut next = [0u8; 1];
     let got = libc::read(fd, &mut next);
     if got == 0 {
         return true;
     }
     if got < 0 {
-        unread(path);
+        unread();
         return false;
     }
     verdicts::start(verdicts::NOT_READ);
-    say::quoted(path);
     if n < room {
-        say::text(b": not read whole, try again\n");
+        say::text(b"not to its end, try again\n");
     } else {
-        say::one(
-            b": longer than % bytes, the most that is read\n",
-            room as u64,
-        );
+        say::one(b"longer than % bytes, the most that is read\n", room as u64);
     }
     false
 }
 
-// A file that cannot be opened or read; the reason goes to standard error.
-pub(crate) fn unread(path: &[u8]) {
-    os::fail(path);
+// A file that cannot be opened or read; the system's reason goes to standard error.
+pub(crate) fn unread() -> u32 {
+    os::fail(b"fwparts");
     verdicts::start(verdicts::NOT_READ);
+    say::text(b"it cannot be opened or read\n");
+    verdicts::NOT_READ
+}
+
+// A file's name ahead of what is said of it.
+pub(crate) fn name(path: &[u8]) {
     say::quoted(path);
-    say::text(b"\n");
+    say::text(b": ");
 }

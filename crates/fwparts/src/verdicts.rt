@@ -37,11 +37,9 @@ pub(crate) fn refused_part(name: &[u8], code: u32) -> u32 {
     NOT_GOOD
 }
 
-// Bytes needed and there.
+// Bytes needed and there, in a line of its own where some are missing.
 pub(crate) fn shortage(f: firmware::Figures) {
     if f.there < f.needed {
-        say::two(b"needs % bytes, has %\n", f.needed as u64, f.there as u64);
-    } else {
-        say::text(b"\n");
+        say::two(b"  needs % bytes, has %\n", f.needed as u64, f.there as u64);
     }
 }
