@@ -77,25 +77,25 @@ static uint32_t (*const guc_interface_linked)(void) GUC_KEPT = guc_interface_2;
 	X(GUC_OK, 0, "accepted") \
 	X(GUC_BAD_DESCRIPTOR, 1, "the descriptor is not 16 dwords") \
 	X(GUC_BAD_BUFFER, 2, "a ring has a multiple of 1024 dwords, from 1024 to 16384") \
-	X(GUC_BAD_STATE, 3, "the state does not fit: another step is due, or another ring") \
+	X(GUC_BAD_STATE, 3, "the state does not fit this call and this ring") \
 	X(GUC_BAD_MESSAGE, 4, "the message is malformed") \
 	X(GUC_SHORT_OUTPUT, 5, "the output is shorter than 256 dwords") \
 	X(GUC_BROKEN, 6, "STATUS is not 0") \
 	X(GUC_OVERFLOW, 7, "HEAD or TAIL is outside the ring") \
-	X(GUC_MISMATCH, 8, "TAIL is not the sender's own tail, or HEAD not the receiver's own head") \
+	X(GUC_MISMATCH, 8, "TAIL is not the sender's own, or HEAD not the receiver's own") \
 	X(GUC_UNDERFLOW, 9, "the message is longer than what is used") \
 	X(GUC_FULL, 10, "the message is longer than what is free") \
 	X(GUC_EMPTY, 11, "nothing pending") \
-	X(GUC_OUT_OF_TURN, 12, "publish before the last dword is moved, or a dword moved after the last") \
+	X(GUC_OUT_OF_TURN, 12, "publish before the last dword moved, or a move after it") \
 	X(GUC_MALFORMED, 13, "the message is whole but malformed") \
 	X(GUC_BAD_FIELD, 14, "a field too wide, NUM_DWORDS 0, or a name not 1 to 12 bytes without a zero") \
-	X(GUC_SHORT_BLOB, 15, "the blob or the part is too short for its header") \
-	X(GUC_CSS_SIZES, 16, "the sizes disagree") \
-	X(GUC_CSS_BEYOND, 17, "a part of the image lies beyond the blob") \
-	X(GUC_CPD_HEADER, 18, "the marker is wrong or the header length is below 20") \
-	X(GUC_CPD_ENTRIES, 19, "the entries lie beyond the blob") \
-	X(GUC_NO_ENTRY, 20, "no entry of that name") \
-	X(GUC_CPD_BEYOND, 21, "the entry's part lies beyond the blob") \
+	X(GUC_SHORT_BLOB, 15, "too short for its header") \
+	X(GUC_CSS_SIZES, 16, "the sizes in its header disagree") \
+	X(GUC_CSS_BEYOND, 17, "a part of the image lies beyond its end") \
+	X(GUC_CPD_HEADER, 18, "the directory's marker is wrong or its header length is below 20") \
+	X(GUC_CPD_ENTRIES, 19, "the directory's entries lie beyond its end") \
+	X(GUC_NO_ENTRY, 20, "no entry has that name") \
+	X(GUC_CPD_BEYOND, 21, "the entry's part lies beyond the directory's end") \
 	X(GUC_DUPLICATE_ENTRY, 22, "more than one entry has that name") \
 	X(GUC_NO_ROOM, 100, "the destination is too short") \
 	X(GUC_NO_SUCH, 101, "no such type or component")

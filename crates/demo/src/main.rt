@@ -1,16 +1,9 @@
 // The demonstration: a channel of 1,024 dwords with a picture of its ring, and a firmware file with its parts.
 mod calls;
-mod dwords;
 mod files;
-mod laying;
 mod order;
-mod picture;
-mod refusals;
 mod steps;
 mod trouble;
-mod wording;
-
-use wording::text;
 
 // The scenes: one channel through all of its own, then the files.
 fn main() {
@@ -29,16 +22,12 @@ fn main() {
 
 // What a reader of the lines has to know.
 fn foreword() {
-    text(
-        b"A host sends messages to the GuC through a ring of 1024 places, a dword in each. A message has 2 to 256 dwords.\n",
-    );
-    text(
-        b"HEAD is the next place to read, TAIL the next to write. One place stays free: a full ring never looks empty.\n",
-    );
-    text(
-        b"In the picture a character is 16 places: # some are used, . all are free. H marks the head, T the tail, X both.\n",
-    );
-    text(
-        b"STATUS 0 is good. A refusal names its rule in documents 01 and 02. The library under it is proved to meet its contracts.\n",
+    say::text(
+        b"A host sends messages to the GuC through a ring of 1024 places, a dword in each.\n\
+          A message has a number, its fence, and 2 to 256 dwords. HEAD is the next place\n\
+          to read, TAIL the next to write. One place stays free: a full ring never looks\n\
+          empty. In the picture a character is 16 places: # some are used, . all are\n\
+          free; H marks the head, T the tail, X both. A refusal has its number in\n\
+          docs/RULES.md. The library under this is proved to meet its contracts.\n",
     );
 }

@@ -1,33 +1,30 @@
 // A send by its steps, with a publish that comes too early and a caller that overwrites its message.
-use crate::calls::Ctb;
 use crate::calls::picture;
 use crate::calls::receive;
 use crate::calls::send_look;
 use crate::calls::send_publish;
 use crate::calls::send_store;
-use crate::dwords::put;
-use crate::dwords::request;
-use crate::dwords::whole;
-use crate::wording::dword;
-use crate::wording::text;
+use stage::Ctb;
+use stage::request;
+use stage::whole;
 
 // The caller overwrites its message after the look; what is stored is the sender's own copy.
 fn swapped_after_look(c: Ctb) -> Ctb {
-    let mut dwords = request(14, 2);
-    let next = send_look(c, whole(&dwords));
-    dword(
-        b"  The caller changes dword 2 of its message from ",
-        dwords[2],
+    let mut m = request(14, 2);
+    let next = send_look(c, whole(&m));
+    let before = m[2];
+    m[2] = 0xdead_beef;
+    say::two(
+        b"  The caller changes dword 2 of its message from & to &\n",
+        before as u64,
+        m[2] as u64,
     );
-    put(&mut dwords, 2, 0xdead_beef);
-    dword(b" to ", dwords[2]);
-    text(b"\n");
     next
 }
 
 // Look, store and publish, one at a time.
 pub(crate) fn stepwise(c: Ctb) {
-    text(b"\n8. A send step by step: no swap after the look, no publish before the last dword\n");
+    say::text(b"\n8. Step by step: no swap after the look, no publish before the last dword\n");
     let c = swapped_after_look(c);
     let c = send_store(c);
     let c = send_publish(c);

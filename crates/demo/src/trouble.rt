@@ -1,38 +1,37 @@
 // What somebody else can break: a message torn, a message malformed, and an offset rewritten.
-use crate::calls::Ctb;
-use crate::calls::open_again;
+use crate::calls::open;
 use crate::calls::picture;
 use crate::calls::receive;
 use crate::calls::send;
 use crate::calls::with_dword;
 use crate::calls::with_tail;
-use crate::wording::text;
+use stage::Ctb;
 
-// A header that says more dwords than are there, and a channel that stays broken until it is opened again.
+// A header that says 38 dwords where 10 are, and a channel that stays broken until it is opened again.
 pub(crate) fn torn(c: Ctb) -> Ctb {
-    text(b"\n5. A torn message stops the channel\n");
+    say::text(b"\n5. A torn message stops the channel: its header says 38 dwords, 10 are there\n");
     let c = send(c, 9, 9);
-    let c = with_dword(c, 249, 0x0009_0025, b", a header that says 38 dwords\n");
+    let c = with_dword(c, 249, 0x0009_0025);
     let c = picture(receive(c, 9, 9));
     let c = receive(c, 9, 9);
     let c = send(c, 10, 1);
-    picture(open_again(c))
+    picture(open(c))
 }
 
-// A whole message of unknown type, and the good one behind it.
+// A whole message of type 4, which is unknown, and the good one behind it.
 pub(crate) fn malformed(c: Ctb) -> Ctb {
-    text(b"\n6. A malformed message is passed over, and the next one arrives\n");
+    say::text(b"\n6. A message of an unknown type is passed over, and the next one arrives\n");
     let c = send(c, 11, 63);
     let c = send(c, 12, 31);
-    let c = picture(with_dword(c, 1, 0x4000_000b, b": type 4, which is unknown\n"));
+    let c = picture(with_dword(c, 1, 0x4000_000b));
     let c = picture(receive(c, 11, 63));
     picture(receive(c, 12, 31))
 }
 
 // TAIL moved behind the sender's back.
 pub(crate) fn rewritten(c: Ctb) -> Ctb {
-    text(b"\n7. A rewritten offset is noticed\n");
+    say::text(b"\n7. A rewritten offset is noticed\n");
     let c = with_tail(c, 700);
     let c = picture(send(c, 13, 1));
-    open_again(c)
+    open(c)
 }

@@ -1,11 +1,15 @@
 // The words that programs print: templates with numbers in them, one sentence for each number that says no, the ring's picture, and the versions and parts of
 // firmware files. Printing answers nothing, so the functions here have no more to promise than that they end and do nothing undefined.
+mod answers;
 mod names;
 mod numbers;
 mod parts;
 mod picture;
 mod print;
 
+pub use answers::descriptor;
+pub use answers::end;
+pub use answers::verdict;
 pub use names::quoted;
 pub use numbers::line;
 pub use numbers::number;

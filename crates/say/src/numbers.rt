@@ -15,11 +15,11 @@ pub fn sentence(code: u32) {
           the output is shorter than 256 dwords\n\
           STATUS is not 0\n\
           HEAD or TAIL is outside the ring\n\
-          TAIL is not the sender's own tail, or HEAD not the receiver's own head\n\
+          TAIL is not the sender's own, or HEAD not the receiver's own\n\
           the message is longer than what is used\n\
           the message is longer than what is free\n\
           nothing pending\n\
-          publish before the last dword is moved, or a dword moved after the last\n\
+          publish before the last dword moved, or a move after it\n\
           the message is whole but malformed\n\
           a field too wide, NUM_DWORDS 0, or a name not 1 to 12 bytes without a zero\n\
           too short for its header\n\

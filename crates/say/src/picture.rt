@@ -1,10 +1,10 @@
 // The ring's picture: 64 characters for 1,024 places, 16 to a character.
-use crate::print::four;
+use crate::answers::PLACES;
+use crate::answers::descriptor;
+use crate::answers::used_of;
 use crate::print::text;
 
-// The places of the ring that is drawn, and those of a character.
-const PLACES: usize = 1024;
-
+// The places of a character.
 const WIDE: usize = 16;
 
 // Whether the 16 places from `place` on have x among them.
@@ -50,23 +50,14 @@ fn cells(head: usize, used: usize) {
     }
 }
 
-// The ring with HEAD and TAIL over it, and the figures under it.
+// The ring with HEAD and TAIL over it, and the descriptor under it.
 pub fn ring(head: u32, tail: u32, status: u32) {
     let h = head as usize;
     let t = tail as usize;
-    let used = std::num::wrapping_sub_usize(t, h) % PLACES;
     text(b"    ");
     marks(h, t, if h < t { t } else { h });
     text(b"\n    ");
-    cells(h, used);
-    four(
-        b"\n    HEAD %, TAIL %, used %, free %",
-        h as u64,
-        t as u64,
-        used as u64,
-        (PLACES - 1 - used) as u64,
-    );
-    text(b", STATUS ");
-    crate::numbers::status(status);
-    text(b"\n");
+    cells(h, used_of(h, t));
+    text(b"\n    ");
+    descriptor(head, tail, status);
 }
