@@ -67,8 +67,8 @@ cut-flat zero ((x ∷ m) ∷ q) a h = absurd (omega arith)
 cut-flat (suc f) ((x ∷ m) ∷ q) a h =
     let e : length (x ∷ m) ≡ totalLength x = message-length (x ∷ m) (a .0) in
     let l : length (flat q) ≤ f = omega (arith, length-append m (flat q)) in
-    λ i. take-at (x ∷ m) (flat q) (totalLength x) e i ∷
-    (ap (cut f) (drop-at (x ∷ m) (flat q) (totalLength x) e) ∙ cut-flat f q (a .1) l) i
+    λ i. take-at (x ∷ m) (flat q) (totalLength x) e i
+    ∷ (ap (cut f) (drop-at (x ∷ m) (flat q) (totalLength x) e) ∙ cut-flat f q (a .1) l) i
 
 unread-queue : (p : Plain) → Inv p → unread (descriptor p) (p .buf) ≡ p .queue
 unfolding unread descriptor

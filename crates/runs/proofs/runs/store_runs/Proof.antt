@@ -21,14 +21,16 @@ store-opened-requires c κs = simp length-set (omega arith)
 
 same-length-2 : tie.Need-same-length-2
 same-length-2 c =
-    let a = c .before .before .before .before .before .before .before .before .args in
-    c .before .before .store-opened .kept .0 ∙ length-set (now (a .buf)) (a .at) (a .header)
+    let stored = c .before .before in
+    let a = stored .before .before .before .before .before .before .args in
+    stored .store-opened .kept .0 ∙ length-set (now (a .buf)) (a .at) (a .header)
 
 -- the end of the buffer falls between the first two
 returns-2 : tie.Need-returns-2
 returns-2 c =
-    let a = c .before .before .before .before .before .before .before .before .args in
-    stored-apart (now (a .buf)) (now (a .rest)) _ (a .header) (a .word) (a .at) (c .before .before .store-opened .ensures) refl (omega arith)
+    let stored = c .before .before in
+    let a = stored .before .before .before .before .before .before .args in
+    stored-apart (now (a .buf)) (now (a .rest)) _ (a .header) (a .word) (a .at) (stored .store-opened .ensures) refl (omega arith)
 
 store-judged-requires-2 : tie.Need-store-judged-requires-2
 store-judged-requires-2 c κs = simp length-take (omega arith)
@@ -42,7 +44,8 @@ returns-3 c =
     let l = first .before .before .before .before .if1 .left in
     let one = first .before .before .before .if2 .left in
     let e = rw sub-zero at (first .store-judged2 .ensures) in
-    stored-together (now (a .buf)) (now (a .rest)) _ _ (a .header) (a .word) (a .at) (c .before .before .store-run .ensures) refl refl e (start .pre .0) l one
+    let second = c .before .before .store-run .ensures in
+    stored-together (now (a .buf)) (now (a .rest)) _ _ (a .header) (a .word) (a .at) second refl refl e (start .pre .0) l one
 
 pub store-runs-spec : {M : Type 1} → statement M
 store-runs-spec =
