@@ -13,7 +13,8 @@ use Rattle.delivery.proofs.loopback.Tie as tie
 returns : tie.Need-returns
 returns c =
     let received = c .before .before .before .before in
-    let sent = received .before .before .before .before .before .before .before .before in
+    let lent = received .before .before .before .before .before in
+    let sent = lent .before .before .before in
     let opened = sent .before .before .before .before .before .before .before in
     let a = opened .before .before .before .before .before .before .before .args in
     let d = now (a .desc) in
