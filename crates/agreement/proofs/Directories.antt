@@ -12,7 +12,8 @@ use denote.Ref.{now}
 use Rattle.firmware.specs.Bytes.{then}
 use Rattle.firmware.specs.Css
 use Rattle.firmware.specs.Cpd
-use Rattle.firmware.specs.Inside.{hucName, hucBlob, hucLocated, hucNumber, hucPlace, hucTruncated, manifestName, manifestNumber, partNamed, within}
+use Rattle.firmware.specs.Inside.{hucName, hucBlob, hucLocated, hucNumber, hucPlace}
+use Rattle.firmware.specs.Inside.{hucTruncated, manifestName, manifestNumber, partNamed, within}
 use Rattle.firmware.specs.Version.{cssReading, hucReading, manifestReading, manifestVersion, reading}
 use Rattle.firmware.specs.Private.{outer}
 use Rattle.firmware.specs.declared.bytes.Located.{Located}
@@ -24,8 +25,10 @@ use Rattle.firmware.proofs.Tests.{cases}
 use Rattle.agreement.specs.Images.{bytesOf}
 use Rattle.agreement.specs.Directories.{Directories, HucInside, InsideDirectories, ManifestInside, SharedName}
 use Rattle.agreement.proofs.Images.{empty-at-start, very-bytes}
-use Rattle.agreement.proofs.Entries.{directory-is, directory-passes, entry-at, entry-count, entry-is, entry-name, entry-passes, no-entry-name, part-at}
-use Rattle.agreement.proofs.Seeks.{beyond-answers, beyond-is, found-is, found-located, found-passes, has-is, is-has, none-answers, none-is, image-below, shared-answers, shared-is}
+use Rattle.agreement.proofs.Entries.{directory-is, directory-passes, entry-at, entry-count, entry-is}
+use Rattle.agreement.proofs.Entries.{entry-name, entry-passes, no-entry-name, part-at}
+use Rattle.agreement.proofs.Seeks.{beyond-answers, beyond-is, found-is, found-located, found-passes, has-is}
+use Rattle.agreement.proofs.Seeks.{is-has, none-answers, none-is, image-below, shared-answers, shared-is}
 
 -- ---- inside
 
@@ -52,6 +55,10 @@ module _ (at : ℕ) (l : Located) where
   outer-stays e = rw (eq-eqb (l .start) 0 e) e
 
 module _ (b : List ℕ) (z : Cpd.number b hucName ≡ 0) where
+  -- a component of the image inside
+  abbrev inner : Component → Located
+  inner which = Css.located which (hucBlob b)
+
   huc-passes : eqb (Cpd.number b hucName) 0 ≡ true
   huc-passes = eq-eqb (Cpd.number b hucName) 0 z
 
@@ -63,7 +70,7 @@ module _ (b : List ℕ) (z : Cpd.number b hucName ≡ 0) where
   unfolding hucReading cssReading
   huc-read = rw huc-judged
 
-  huc-is : (which : Component) → hucLocated which b ≡ outer (Cpd.located b hucName .start) (Css.located which (hucBlob b))
+  huc-is : (which : Component) → hucLocated which b ≡ outer (Cpd.located b hucName .start) (inner which)
   huc-is which = sym (huc-found b which refl z (ap (Css.located which) (sym (found-bytes b hucName refl))))
 
   pub huc-inside : HucInside b (bytesOf b (Cpd.located b hucName)) (Cpd.located b hucName .start)
@@ -71,23 +78,28 @@ module _ (b : List ℕ) (z : Cpd.number b hucName ≡ 0) where
       record {
         number = huc-judged;
         reading = huc-read;
-        component-number = λ which. ap (λ (l : Located). l .code) (huc-is which) ∙ outer-number _ (Css.located which (hucBlob b));
-        component-truncated = λ which. ap (λ (l : Located). l .truncated) (huc-is which) ∙ outer-truncated _ (Css.located which (hucBlob b));
-        component-length = λ which. ap (λ (l : Located). l .len) (huc-is which) ∙ outer-length _ (Css.located which (hucBlob b));
-        component-start = λ which n. ap (λ (l : Located). l .start) (huc-is which) ∙ outer-moved _ (Css.located which (hucBlob b)) n;
-        not-shown = λ which e. ap (λ (l : Located). l .start) (huc-is which) ∙ outer-stays _ (Css.located which (hucBlob b)) e;
+        component-number = λ which. ap (λ (l : Located). l .code) (huc-is which) ∙ outer-number _ (inner which);
+        component-truncated = λ which. ap (λ (l : Located). l .truncated) (huc-is which) ∙ outer-truncated _ (inner which);
+        component-length = λ which. ap (λ (l : Located). l .len) (huc-is which) ∙ outer-length _ (inner which);
+        component-start = λ which n. ap (λ (l : Located). l .start) (huc-is which) ∙ outer-moved _ (inner which) n;
+        not-shown = λ which e. ap (λ (l : Located). l .start) (huc-is which) ∙ outer-stays _ (inner which) e;
       }
 
 module _ (b : List ℕ) (z : Cpd.number b manifestName ≡ 0) where
-  manifest-judged : manifestNumber b ≡ cond (ltb (length (partNamed b manifestName)) 44) 15 0
+  abbrev manifest : List ℕ
+  manifest = partNamed b manifestName
+
+  manifest-judged : manifestNumber b ≡ cond (ltb (length manifest) 44) 15 0
   unfolding manifestNumber
   manifest-judged = rw (eq-eqb (Cpd.number b manifestName) 0 z)
 
-  short : ltb (length (partNamed b manifestName)) 44 ≡ true → (manifestReading b .number ≡ 15) × (manifestReading b .version ≡ [])
+  short : ltb (length manifest) 44 ≡ true → (manifestReading b .number ≡ 15) × (manifestReading b .version ≡ [])
   unfolding manifestReading reading
   short t = let n : manifestNumber b ≡ 15 = manifest-judged ∙ rw t in (n, rw n)
 
-  long : ltb (length (partNamed b manifestName)) 44 ≡ false → (manifestReading b .number ≡ 0) × (manifestReading b .version ≡ manifestVersion (partNamed b manifestName))
+  long :
+      ltb (length manifest) 44 ≡ false
+      → (manifestReading b .number ≡ 0) × (manifestReading b .version ≡ manifestVersion manifest)
   unfolding manifestReading reading
   long t = let n : manifestNumber b ≡ 0 = manifest-judged ∙ rw t in (n, rw n)
 
@@ -115,7 +127,9 @@ manifest-below false = omega arith
 
 manifest-shared : (b : List ℕ) → (manifestNumber b ≡ 22) ↔ SharedName b manifestName
 unfolding manifestNumber
-manifest-shared b = let l = manifest-below (ltb (length (partNamed b manifestName)) 44) in (passed-on b manifestName _ l, promised b manifestName _ l)
+manifest-shared b =
+    let l = manifest-below (ltb (length (partNamed b manifestName)) 44) in
+    (passed-on b manifestName _ l, promised b manifestName _ l)
 
 huc-shared : (b : List ℕ) → (hucNumber b ≡ 22) ↔ SharedName b hucName
 unfolding hucNumber
@@ -154,12 +168,14 @@ inside =
       manifest-shared = manifest-shared;
       huc-shared = λ which. huc-shared;
       huc-shared-reading = huc-shared;
-      huc-outside = λ which b z. empty-at-start (Cpd.number b hucName) false _ (huc-outside-nowhere b which (ne-eqb (Cpd.number b hucName) 0 z));
+      huc-outside = λ which b z.
+          empty-at-start (Cpd.number b hucName) false _ (huc-outside-nowhere b which (ne-eqb (Cpd.number b hucName) 0 z));
       huc-outside-reading = λ b z. let n = ne-eqb (Cpd.number b hucName) 0 z in (rw n, rw (n, n));
       huc-inside = huc-inside;
       huc-answer = λ which b. (refl, refl);
       huc-within = λ which b. located-ends (length b) (hucPlace which b) (huc-lies b which) (hucNumber b) (hucTruncated b) refl;
-      huc-very-bytes = λ which blob part. very-bytes (hucNumber (now blob)) (hucTruncated (now blob)) (hucPlace which (now blob)) blob part;
+      huc-very-bytes = λ which blob part.
+          very-bytes (hucNumber (now blob)) (hucTruncated (now blob)) (hucPlace which (now blob)) blob part;
       manifest-outside = λ b z. let n = ne-eqb (Cpd.number b manifestName) 0 z in (rw n, rw (n, n));
       manifest-inside = manifest-inside;
     }

@@ -37,8 +37,15 @@ directory-is b e =
 pub directory-passes : (b : List ℕ) → IsDirectory b → Cpd.directoryNumber b ≡ 0
 unfolding Cpd.directoryNumber Cpd.hasMarker
 directory-passes b x =
-    simp
-    (le-ltb (length b) 20 (x .has-header), x .marker-0, x .marker-1, x .marker-2, x .marker-3, le-leb 20 (getD b 10 0) (x .header-length), le-ltb (length b) (getD b 10 0 + 24 * Cpd.count b) (x .there))
+    simp (
+      le-ltb (length b) 20 (x .has-header),
+      x .marker-0,
+      x .marker-1,
+      x .marker-2,
+      x .marker-3,
+      le-leb 20 (getD b 10 0) (x .header-length),
+      le-ltb (length b) (getD b 10 0 + 24 * Cpd.count b) (x .there),
+    )
 
 pub entry-is : (b : List ℕ) (i : ℕ) → Cpd.entryNumber b i ≡ 0 → EntryThere b i
 unfolding Cpd.entryNumber
@@ -55,22 +62,28 @@ entry-is b i e =
 pub entry-passes : (b : List ℕ) (i : ℕ) → EntryThere b i → Cpd.entryNumber b i ≡ 0
 unfolding Cpd.entryNumber
 entry-passes b i x =
-    simp
-    (directory-passes b (x .of-directory), lt-leb (Cpd.count b) i (x .an-entry), le-ltb (length b) (Cpd.entryPart b (Cpd.entryStart b i) .to) (x .part-there))
+    simp (
+      directory-passes b (x .of-directory),
+      lt-leb (Cpd.count b) i (x .an-entry),
+      le-ltb (length b) (Cpd.entryPart b (Cpd.entryStart b i) .to) (x .part-there),
+    )
 
 -- where its part lies
 pub entry-at : (b : List ℕ) (i : ℕ) → Cpd.entryNumber b i ≡ 0 → Cpd.entryPlace b i ≡ Cpd.entryPart b (Cpd.entryStart b i)
 unfolding Cpd.entryPlace
 entry-at b i e = rw e
 
-pub part-at : (b : List ℕ) (i : ℕ) (l : Located) → l ≡ placed 0 false (Cpd.entryPart b (Cpd.entryStart b i)) → At (offsetAt b (entryAt b i)) (sizeAt b (entryAt b i)) l
+pub part-at :
+    (b : List ℕ) (i : ℕ) (l : Located) → l ≡ placed 0 false (Cpd.entryPart b (Cpd.entryStart b i))
+    → At (offsetAt b (entryAt b i)) (sizeAt b (entryAt b i)) l
 part-at b i l e = rw e (record { accepted = refl; starts = refl; size = omega arith })
 
 pub entry-count : (b : List ℕ) → Cpd.directoryNumber b ≡ 0 → Cpd.entriesOf b .count ≡ Cpd.count b
 unfolding Cpd.entriesOf
 entry-count b e = rw e
 
-pub entry-name : (b : List ℕ) (i : ℕ) → IsDirectory b → i < Cpd.count b → Cpd.namePlace b i ≡ span (entryAt b i) (entryAt b i + 12)
+pub entry-name :
+    (b : List ℕ) (i : ℕ) → IsDirectory b → i < Cpd.count b → Cpd.namePlace b i ≡ span (entryAt b i) (entryAt b i + 12)
 unfolding Cpd.namePlace
 entry-name b i x l = rw (entry-count b (directory-passes b x), lt-ltb i (Cpd.count b) l)
 

@@ -24,7 +24,9 @@ pub empty-at-start : (number : ℕ) (t : Bool) (l : Located) → l ≡ placed nu
 empty-at-start number t l q = rw q (record { code = refl; at-start = refl; empty = refl })
 
 -- what is handed back for a place is the located bytes, where they lie
-pub very-bytes : (number : ℕ) (t : Bool) (p : Span) (blob part : RefT (List ℕ)) → PartOf blob p part → VeryBytes blob (placed number t p) part
+pub very-bytes :
+    (number : ℕ) (t : Bool) (p : Span) (blob part : RefT (List ℕ)) → PartOf blob p part
+    → VeryBytes blob (placed number t p) part
 very-bytes number t p blob part x = record { bytes = x .same-bytes; block = x .same-block; place = x .same-place }
 
 -- an image that is accepted
@@ -35,8 +37,15 @@ module _ (b : List ℕ) (z : Css.number b ≡ 0) where
   facts : Accepted (length b) (Css.sizes b)
   facts = css-accepted b z
 
+  -- a component at its place, and one that is shown where the blob has all of the image
+  abbrev AtItsPlace : Component → Type 0
+  AtItsPlace which = Css.located which b ≡ placed 0 (Css.truncated b) (Css.spanOf which (Css.sizes b))
+
+  abbrev InBack : Component → Type 0
+  InBack which = Css.shown which b ≡ (Css.isImage b && Css.allThere b)
+
   -- a component that is shown, and one that is not
-  located-shown : (which : Component) → Css.shown which b ≡ true → Css.located which b ≡ placed 0 (Css.truncated b) (Css.spanOf which (Css.sizes b))
+  located-shown : (which : Component) → Css.shown which b ≡ true → AtItsPlace which
   unfolding Css.place
   located-shown which t = rw (z, t)
 
@@ -44,37 +53,39 @@ module _ (b : List ℕ) (z : Css.number b ≡ 0) where
   unfolding Css.place
   located-unshown which t = rw (z, t)
 
-  front : (which : Component) → Css.shown which b ≡ Css.isImage b → Css.located which b ≡ placed 0 (Css.truncated b) (Css.spanOf which (Css.sizes b))
+  front : (which : Component) → Css.shown which b ≡ Css.isImage b → AtItsPlace which
   front which q = located-shown which (q ∙ is-accepted)
 
-  shown-back : (which : Component) → Css.shown which b ≡ (Css.isImage b && Css.allThere b) → 4 * s b ≤ length b → Css.shown which b ≡ true
+  shown-back : (which : Component) → InBack which → 4 * s b ≤ length b → Css.shown which b ≡ true
   unfolding Css.sizes
   shown-back which q l = q ∙ rw (is-accepted, le-leb (4 * s b) (length b) l)
 
-  unshown-back : (which : Component) → Css.shown which b ≡ (Css.isImage b && Css.allThere b) → length b < 4 * s b → Css.shown which b ≡ false
+  unshown-back : (which : Component) → InBack which → length b < 4 * s b → Css.shown which b ≡ false
   unfolding Css.sizes
   unshown-back which q l = q ∙ rw (is-accepted, lt-leb (4 * s b) (length b) l)
 
-  at : (start len : ℕ) (t : Bool) (p : Span) (l : Located) → l ≡ placed 0 t p → p .from ≡ start → p .to - p .from ≡ len → At start len l
+  at :
+      (start len : ℕ) (t : Bool) (p : Span) (l : Located) → l ≡ placed 0 t p → p .from ≡ start → p .to - p .from ≡ len
+      → At start len l
   at start len t p l q f g = rw q (record { accepted = refl; starts = f; size = g })
 
-  ucode-shown : Css.located Ucode b ≡ placed 0 (Css.truncated b) (Css.spanOf Ucode (Css.sizes b))
+  ucode-shown : AtItsPlace Ucode
   unfolding Css.shown
   ucode-shown = front Ucode refl
 
-  rsa-shown : Css.located Rsa b ≡ placed 0 (Css.truncated b) (Css.spanOf Rsa (Css.sizes b))
+  rsa-shown : AtItsPlace Rsa
   unfolding Css.shown
   rsa-shown = front Rsa refl
 
-  modulus-shown : 4 * s b ≤ length b → Css.located Modulus b ≡ placed 0 (Css.truncated b) (Css.spanOf Modulus (Css.sizes b))
+  modulus-shown : 4 * s b ≤ length b → AtItsPlace Modulus
   unfolding Css.shown
   modulus-shown l = located-shown Modulus (shown-back Modulus refl l)
 
-  exponent-shown : 4 * s b ≤ length b → Css.located Exponent b ≡ placed 0 (Css.truncated b) (Css.spanOf Exponent (Css.sizes b))
+  exponent-shown : 4 * s b ≤ length b → AtItsPlace Exponent
   unfolding Css.shown
   exponent-shown l = located-shown Exponent (shown-back Exponent refl l)
 
-  back-unshown : (which : Component) → Css.shown which b ≡ (Css.isImage b && Css.allThere b) → length b < 4 * s b → EmptyAtStart 0 (Css.located which b)
+  back-unshown : (which : Component) → InBack which → length b < 4 * s b → EmptyAtStart 0 (Css.located which b)
   back-unshown which q l = empty-at-start 0 (Css.truncated b) _ (located-unshown which (unshown-back which q l))
 
   -- the components, each behind the one before it
@@ -128,8 +139,13 @@ module _ (b : List ℕ) (z : Css.number b ≡ 0) where
 image-passes : (b : List ℕ) → IsImage b → Css.number b ≡ 0
 unfolding Css.number Css.agree Css.sizes
 image-passes b x =
-    simp
-    (le-ltb (length b) 128 (x .has-header), eq-eqb (h b) (32 + k b + m b + e b) (x .sum), le-leb 1 (k b) (x .has-rsa), lt-ltb (h b) (s b) (x .has-ucode), le-ltb (length b) (128 + 4 * (s b - h b) + 4 * k b) (x .there))
+    simp (
+      le-ltb (length b) 128 (x .has-header),
+      eq-eqb (h b) (32 + k b + m b + e b) (x .sum),
+      le-leb 1 (k b) (x .has-rsa),
+      lt-ltb (h b) (s b) (x .has-ucode),
+      le-ltb (length b) (128 + 4 * (s b - h b) + 4 * k b) (x .there),
+    )
 
 -- ---- every blob
 

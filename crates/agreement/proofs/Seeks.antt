@@ -1,4 +1,5 @@
--- A name sought in a directory agrees with documents 01 and 02: when it is found, and when 20, 22 and 21 are answered. Assumes nothing.
+-- A name sought in a directory agrees with documents 01 and 02: when it is found, and when 20, 22 and 21 are answered.
+-- Assumes nothing.
 use Prim.Native.Nat.{ℕ, _+_, _-_, _*_, _≤_, _<_}
 use mathlib.Core.Path.{_≡_, refl, sym, ap, _∙_}
 use mathlib.Core.Bool.{Bool, true, false, not, _&&_, cond}
@@ -30,8 +31,8 @@ name-is name e =
 name-passes : (name : List ℕ) → IsName name → Cpd.isName name ≡ true
 unfolding Cpd.isName
 name-passes name x =
-    simp
-    (le-leb 1 (length name) (x .one), le-leb (length name) 12 (x .twelve), all-each (Cpd.nonzero name) (length name) (λ j l. ap not (ne-eqb (getD name j 0) 0 (x .no-zero j l))))
+    let no-zero = all-each (Cpd.nonzero name) (length name) (λ j l. ap not (ne-eqb (getD name j 0) 0 (x .no-zero j l))) in
+    simp (le-leb 1 (length name) (x .one), le-leb (length name) 12 (x .twelve), no-zero)
 
 -- the directory's own numbers, and an image's, are below a name's
 below-20 : (t u v : Bool) (i j k : ℕ) → i < 20 → j < 20 → k < 20 → cond t i (cond u j (cond v k 0)) < 20
@@ -43,8 +44,8 @@ below-20 false false false i j k x y z = omega arith
 directory-below : (b : List ℕ) → Cpd.directoryNumber b < 20
 unfolding Cpd.directoryNumber
 directory-below b =
-    below-20 (ltb (length b) 20) (not (Cpd.hasMarker b && leb 20 (Cpd.headerLength b))) (ltb (length b) (Cpd.headerLength b + 24 * Cpd.count b)) 15 18 19
-    (omega arith) (omega arith) (omega arith)
+    below-20 (ltb (length b) 20) (not (Cpd.hasMarker b && leb 20 (Cpd.headerLength b)))
+    (ltb (length b) (Cpd.headerLength b + 24 * Cpd.count b)) 15 18 19 (omega arith) (omega arith) (omega arith)
 
 pub image-below : (b : List ℕ) → Css.number b < 20
 unfolding Css.number
@@ -79,7 +80,9 @@ module _ (b name : List ℕ) where
     passes : Cpd.directoryNumber b ≡ 0
     answers : behind ≡ c
 
-  judged : (c : ℕ) → (14 ≡ c → ⊥) → (Cpd.directoryNumber b ≡ c → Cpd.directoryNumber b ≡ 0) → Cpd.number b name ≡ c → Judged c
+  judged :
+      (c : ℕ) → (14 ≡ c → ⊥) → (Cpd.directoryNumber b ≡ c → Cpd.directoryNumber b ≡ 0) → Cpd.number b name ≡ c
+      → Judged c
   unfolding Cpd.number
   judged c other own z =
       cases (Cpd.isName name)
@@ -102,7 +105,10 @@ module _ (b name : List ℕ) where
       cases (ltb (length b) (partEnd b at)) (λ t. n (sym (rw t at e))) (λ t. z (sym (rw t at e)))
 
   -- by how many entries have it
-  by-count : {X : Type 0} (c : ℕ) → behind ≡ c → (named ≡ 0 → 20 ≡ c → X) → (1 < named → 22 ≡ c → X) → (named ≡ 1 → Cpd.partNumber b at ≡ c → X) → X
+  by-count :
+      {X : Type 0} (c : ℕ) → behind ≡ c → (named ≡ 0 → 20 ≡ c → X) → (1 < named → 22 ≡ c → X)
+      → (named ≡ 1 → Cpd.partNumber b at ≡ c → X)
+      → X
   by-count c e none two one =
       cases (eqb named 0)
       (λ t. none (eqb-true named 0 t) (rw t at e))
@@ -240,8 +246,10 @@ module _ (b name : List ℕ) where
   pub shared-answers : SharedName b name → Cpd.number b name ≡ 22
   unfolding Cpd.entriesNamed
   shared-answers x =
+      let first = name-has (x .i) (x .entry-i .named) in
+      let other = name-has (x .j) (x .entry-j .named) in
       answer-two (name-passes name (x .entry-i .may-be-sought)) (directory-passes b (x .entry-i .of-directory))
-      (two-count has (Cpd.count b) (x .i) (x .j) (x .apart) (x .entry-j .an-entry) (name-has (x .i) (x .entry-i .named)) (name-has (x .j) (x .entry-j .named)))
+      (two-count has (Cpd.count b) (x .i) (x .j) (x .apart) (x .entry-j .an-entry) first other)
 
   pub beyond-is : Cpd.number b name ≡ 21 → PartBeyond b name
   beyond-is z =
@@ -270,5 +278,9 @@ module _ (b name : List ℕ) where
   pub is-has : (i : ℕ) → EntryNamed b name i → Cpd.entryHas b name i ≡ true
   unfolding Cpd.entryHas
   is-has i x =
-      simp
-      (name-passes name (x .may-be-sought), entry-count b (directory-passes b (x .of-directory)), lt-ltb i (Cpd.count b) (x .an-entry), name-has i (x .named))
+      simp (
+        name-passes name (x .may-be-sought),
+        entry-count b (directory-passes b (x .of-directory)),
+        lt-ltb i (Cpd.count b) (x .an-entry),
+        name-has i (x .named),
+      )

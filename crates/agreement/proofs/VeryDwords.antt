@@ -1,7 +1,7 @@
 -- What is sent and handed out is what was judged. Assumes nothing.
 use Prim.Native.Nat.{ℕ, _+_, _-_, _%_, _≤_}
 use mathlib.Core.Path.{_≡_, refl, sym, ap, _∙_, subst}
-use mathlib.Core.Bool.{true, _||_, cond}
+use mathlib.Core.Bool.{Bool, true, _||_, cond}
 use mathlib.Core.List.{List, _++_}
 use native.Mathlib.Omega.{arith}
 use native.Mathlib.Nat.{mod-eq-of-lt}
@@ -28,7 +28,8 @@ use Rattle.channel.proofs.Steps.{publish-long}
 use Rattle.channel.proofs.Going.{Active, going-test, receive-active, send-active}
 use Rattle.channel.proofs.SendAtOnce.{send-at-once, sendOutcome}
 use Rattle.channel.proofs.ReceiveAtOnce.{receive-at-once, receiveOutcome}
-use Rattle.agreement.specs.VeryDwords.{DwordStored, DwordTaken, HandedOut, HeaderTaken, IdleAgain, LookedAt, SameButBuffer, TailPublished, VeryDwords, WholeSent, offsetBeyond}
+use Rattle.agreement.specs.VeryDwords.{DwordStored, DwordTaken, HandedOut, HeaderTaken, IdleAgain, LookedAt}
+use Rattle.agreement.specs.VeryDwords.{SameButBuffer, TailPublished, VeryDwords, WholeSent, offsetBeyond}
 
 -- a step that answers 0 has the number 0
 by-number : (c : ℕ) (x y : Outcome) → y .code ≡ c → cond (eqb c 0) x y .code ≡ 0 → c ≡ 0
@@ -76,7 +77,13 @@ module _ (s : State) (d b : List ℕ) where
   stores e =
       let z = move-number e in
       let f = entered-fits (length d) (length b) (activeSend (length b) s) _ 0 refl refl refl z in
-      record { formed = formed-copy (length b) s f; agrees = send-active (length b) s f .agrees; next = rw z refl; desc = rw z refl; buf = rw z refl }
+      record {
+        formed = formed-copy (length b) s f;
+        agrees = send-active (length b) s f .agrees;
+        next = rw z refl;
+        desc = rw z refl;
+        buf = rw z refl;
+      }
 
   publish-number : Send.publish s d b .code ≡ 0 → Send.publishNumber s d b ≡ 0
   unfolding Send.publishBy
@@ -89,7 +96,14 @@ module _ (s : State) (d b : List ℕ) where
       let f = entered-fits (length d) (length b) (activeSend (length b) s) _ 0 refl refl refl z in
       let t : s .len ≤ s .moved = leb-true (s .len) (s .moved) (going-test (length d) (length b) (activeSend (length b) s) _ z) in
       let a = send-active (length b) s f in
-      record { formed = formed-copy (length b) s f; agrees = a .agrees; all-moved = omega (arith, a .within); next = rw z refl; desc = rw z refl; buf = rw z refl }
+      record {
+        formed = formed-copy (length b) s f;
+        agrees = a .agrees;
+        all-moved = omega (arith, a .within);
+        next = rw z refl;
+        desc = rw z refl;
+        buf = rw z refl;
+      }
 
 -- ---- a receive
 
@@ -109,7 +123,8 @@ module _ (s : State) (d b : List ℕ) where
 -- a message laid at the front of an output
 module _ (s : State) (m o d b : List ℕ) (x : Outcome) where
   handed :
-      isMessage m ≡ true → x .len ≡ length m → x .out ≡ m ++ drop (length m) o → IdleAgain s (offsetBeyond s b (length m)) (x .next)
+      isMessage m ≡ true → x .len ≡ length m → x .out ≡ m ++ drop (length m) o
+      → IdleAgain s (offsetBeyond s b (length m)) (x .next)
       → x .desc ≡ set d HEAD (offsetBeyond s b (length m)) → x .buf ≡ b → HandedOut s m o d b x
   handed f l q next desc buf =
       record {
@@ -123,6 +138,13 @@ module _ (s : State) (m o d b : List ℕ) (x : Outcome) where
       }
 
 module _ (s : State) (o d b : List ℕ) where
+  -- the number of its publish, and the dwords that it copied
+  abbrev publishing : ℕ
+  publishing = publishNumberOf s (length o) (length d) (length b)
+
+  abbrev copied : List ℕ
+  copied = take (s .len) (s .copy)
+
   publish-by : (c : ℕ) → Receive.publishBy c s o d b .code ≡ 0 → c ≡ 0
   unfolding Receive.publishBy
   publish-by c e =
@@ -131,36 +153,42 @@ module _ (s : State) (o d b : List ℕ) where
       (λ t. cases (eqb c 13) (λ u. rw (t, u) at e) (λ u. rw (t, u) at e))
 
   -- the copy of a publish that is accepted: all there, and well formed
-  publish-rest : publishNumberOf s (length o) (length d) (length b) ≡ 0 → need (leb (s .len) (s .moved)) 12 (need (wellFormed (header s) (second s)) 13 0) ≡ 0
+  publish-rest : publishing ≡ 0 → need (leb (s .len) (s .moved)) 12 (need (wellFormed (header s) (second s)) 13 0) ≡ 0
   unfolding publishNumberOf
   publish-rest z =
       passed-rest (leb 256 (length o)) 5 _ 0 refl (entered-rest (length d) (length b) (activeReceive (length b) s) _ 0 refl refl refl z)
 
-  publish-formed : publishNumberOf s (length o) (length d) (length b) ≡ 0 → wellFormed (header s) (second s) ≡ true
-  publish-formed z = passed (wellFormed (header s) (second s)) 13 0 0 refl (passed-rest (leb (s .len) (s .moved)) 12 _ 0 refl (publish-rest z))
+  publish-formed : publishing ≡ 0 → wellFormed (header s) (second s) ≡ true
+  publish-formed z =
+      passed (wellFormed (header s) (second s)) 13 0 0 refl
+      (passed-rest (leb (s .len) (s .moved)) 12 _ 0 refl (publish-rest z))
 
-  publish-active : publishNumberOf s (length o) (length d) (length b) ≡ 0 → Active (length b) s
+  publish-active : publishing ≡ 0 → Active (length b) s
   unfolding publishNumberOf
   publish-active z = receive-active (length b) s (entered-fits (length d) (length b) (activeReceive (length b) s) _ 0 refl refl refl z)
 
-  copy-is-message : length (s .copy) ≡ 256 → publishNumberOf s (length o) (length d) (length b) ≡ 0 → isMessage (take (s .len) (s .copy)) ≡ true
+  copy-is-message : length (s .copy) ≡ 256 → publishing ≡ 0 → isMessage copied ≡ true
   copy-is-message k z =
       let a = publish-active z in
       let long : 2 ≤ s .len = publish-long s (length o) (length d) (length b) z in
-      let l : length (take (s .len) (s .copy)) ≡ s .len = length-take-le (s .len) (s .copy) (omega (arith, a .short)) in
-      let h : getD (take (s .len) (s .copy)) 0 0 ≡ header s = getD-take (s .len) (s .copy) 0 0 (omega arith) in
-      let w : getD (take (s .len) (s .copy)) 1 0 ≡ second s = getD-take (s .len) (s .copy) 1 0 (omega arith) in
-      message-i (take (s .len) (s .copy)) (l ∙ a .agrees ∙ ap totalLength (sym h)) (rw (h, w) (well-formed (header s) (second s) (publish-formed z)))
+      let l : length copied ≡ s .len = length-take-le (s .len) (s .copy) (omega (arith, a .short)) in
+      let h : getD copied 0 0 ≡ header s = getD-take (s .len) (s .copy) 0 0 (omega arith) in
+      let w : getD copied 1 0 ≡ second s = getD-take (s .len) (s .copy) 1 0 (omega arith) in
+      message-i copied (l ∙ a .agrees ∙ ap totalLength (sym h))
+      (rw (h, w) (well-formed (header s) (second s) (publish-formed z)))
 
-  lays : length (s .copy) ≡ 256 → Receive.publish s o d b .code ≡ 0 → HandedOut s (take (s .len) (s .copy)) o d b (Receive.publish s o d b)
+  lays : length (s .copy) ≡ 256 → Receive.publish s o d b .code ≡ 0 → HandedOut s copied o d b (Receive.publish s o d b)
   unfolding Receive.publishBy
   lays k e =
-      let z : publishNumberOf s (length o) (length d) (length b) ≡ 0 = publish-by (publishNumberOf s (length o) (length d) (length b)) e in
-      let l : length (take (s .len) (s .copy)) ≡ s .len = length-take-le (s .len) (s .copy) (omega (arith, publish-active z .short)) in
-      handed s (take (s .len) (s .copy)) o d b _ (copy-is-message k z) (rw z (sym l)) (rw (z, l) refl) (rw (z, l) refl) (rw (z, l) refl) (rw z refl)
+      let z : publishing ≡ 0 = publish-by publishing e in
+      let l : length copied ≡ s .len = length-take-le (s .len) (s .copy) (omega (arith, publish-active z .short)) in
+      handed s copied o d b _ (copy-is-message k z)
+      (rw z (sym l)) (rw (z, l) refl) (rw (z, l) refl) (rw (z, l) refl) (rw z refl)
 
   -- by one number, a publish depends on the ring's length alone
-  by-length : (k : ℕ) (c : List ℕ) → length b ≡ length c → SameButBuffer (Receive.publishBy k s o d b) (Receive.publishBy k s o d c)
+  by-length :
+      (k : ℕ) (c : List ℕ) → length b ≡ length c
+      → SameButBuffer (Receive.publishBy k s o d b) (Receive.publishBy k s o d c)
   unfolding Receive.publishBy
   by-length k c q =
       cases (eqb k 0 || eqb k 13)
@@ -170,11 +198,14 @@ module _ (s : State) (o d b : List ℕ) where
   ring-unread : (c : List ℕ) → length b ≡ length c → SameButBuffer (Receive.publish s o d b) (Receive.publish s o d c)
   ring-unread c q =
       subst (λ (k : ℕ). SameButBuffer (Receive.publish s o d b) (Receive.publishBy k s o d c))
-      (ap (publishNumberOf s (length o) (length d)) q) (by-length (publishNumberOf s (length o) (length d) (length b)) c q)
+      (ap (publishNumberOf s (length o) (length d)) q) (by-length publishing c q)
 
   -- a whole receive that is accepted
   taking : ℕ
   taking = takeDecision (idle (length b) s) (s .own) (length o) d (length b) (getD b (s .own) 0)
+
+  abbrev pending-formed : Bool
+  pending-formed = wellFormed (getD b (s .own) 0) (getD (messageAt (s .own) b) 1 0)
 
   whole-received : Receive.whole s o d b ≡ receiveOutcome s (receiveBy (receiveNumber taking (s .own) b) (s .own) o d b)
   unfolding taking
@@ -184,11 +215,11 @@ module _ (s : State) (o d b : List ℕ) where
   unfolding receiveBy
   whole-accepted e = sym (ap (λ (x : Outcome). x .code) whole-received) ∙ e
 
-  whole-taken : receiveNumber taking (s .own) b ≡ 0 → (taking ≡ 0) × (wellFormed (getD b (s .own) 0) (getD (messageAt (s .own) b) 1 0) ≡ true)
+  whole-taken : receiveNumber taking (s .own) b ≡ 0 → (taking ≡ 0) × (pending-formed ≡ true)
   unfolding receiveNumber
   whole-taken z =
       cases (eqb taking 0)
-      (λ t. (eqb-true taking 0 t, passed (wellFormed (getD b (s .own) 0) (getD (messageAt (s .own) b) 1 0)) 13 0 0 refl (rw t at z)))
+      (λ t. (eqb-true taking 0 t, passed pending-formed 13 0 0 refl (rw t at z)))
       (λ t. let y : taking ≡ 0 = rw t at z in true-false (sym (eq-eqb taking 0 y) ∙ t))
 
   pending-is-message : receiveNumber taking (s .own) b ≡ 0 → isMessage (messageAt (s .own) b) ≡ true

@@ -1,4 +1,5 @@
--- Code partition directories agree with document 01, 'Firmware images', and document 02, T-03: the part of a name, and the manifest and the image inside.
+-- Code partition directories agree with document 01, 'Firmware images', and document 02, T-03: the part of a name, and
+-- the manifest and the image inside.
 use Prim.Native.Nat.{ℕ, _+_, _*_, _%_, _≤_, _<_, _^_}
 use mathlib.Core.Path.{_≡_}
 use mathlib.Core.Logic.{_↔_}
@@ -28,7 +29,8 @@ pub record IsName (name : List ℕ) : Type 0 where
   pub twelve : length name ≤ 12
   pub no-zero : (j : ℕ) → j < length name → getD name j 0 ≡ 0 → ⊥
 
--- 'at least 20 bytes'; 'bytes 0 to 3 are 24 43 50 44 hex; entry count n is the dword at 4; header length H is the byte at 10'; 'H + 24n bytes must be there'
+-- 'at least 20 bytes'; 'bytes 0 to 3 are 24 43 50 44 hex; entry count n is the dword at 4; header length H is the byte
+-- at 10'; 'H + 24n bytes must be there'
 pub record IsDirectory (b : List ℕ) : Type 0 where
   pub has-header : 20 ≤ length b
   pub marker-0 : getD b 0 0 ≡ 0x24
@@ -79,7 +81,8 @@ pub record NoneNamed (b name : List ℕ) : Type 0 where
   pub of-directory : IsDirectory b
   pub none : (i : ℕ) → i < dwordAt b 4 → HasName b name i → ⊥
 
--- 22 (T-03) 'when more than one entry has it': two of the n entries, whatever else is in them and wherever their parts lie
+-- 22 (T-03) 'when more than one entry has it': two of the n entries, whatever else is in them and wherever their parts
+-- lie
 pub record SharedName (b name : List ℕ) : Type 0 where
   pub i : ℕ
   pub j : ℕ
@@ -100,13 +103,15 @@ pub record HucInside (b : List ℕ) (image : List ℕ) (start : ℕ) : Type 0 wh
   pub component-number : (which : Component) → hucLocated which b .code ≡ Css.located which image .code
   pub component-truncated : (which : Component) → hucLocated which b .truncated ≡ Css.located which image .truncated
   pub component-length : (which : Component) → hucLocated which b .len ≡ Css.located which image .len
-  -- a component that is shown starts as many bytes past the part's start as it does past the image's; one that is not is at the outer blob's start
+  -- a component that is shown starts as many bytes past the part's start as it does past the image's; one that is not
+  -- is at the outer blob's start
   pub component-start :
       (which : Component) → (Css.located which image .start ≡ 0 → ⊥)
       → hucLocated which b .start ≡ start + Css.located which image .start
   pub not-shown : (which : Component) → Css.located which image .start ≡ 0 → hucLocated which b .start ≡ 0
 
--- the manifest's reading of a part: '44 bytes are needed, else 15'; 'four 16-bit numbers (major, minor, hotfix, build) at byte 36'
+-- the manifest's reading of a part: '44 bytes are needed, else 15'; 'four 16-bit numbers (major, minor, hotfix, build)
+-- at byte 36'
 pub record ManifestInside (b : List ℕ) (part : List ℕ) : Type 0 where
   pub too-short : length part < 44 → (manifestReading b .number ≡ 15) × (manifestReading b .version ≡ [])
   pub long-enough :
@@ -118,7 +123,8 @@ pub record ManifestInside (b : List ℕ) (part : List ℕ) : Type 0 where
 pub record Directories : Type 0 where
   -- accepted exactly when one entry has the name and its part is there
   pub exactly : (b name : List ℕ) → (Cpd.number b name ≡ 0) ↔ Found b name
-  -- T-03: 'Seeking a name must refuse with a new number 22 when more than one entry has it, tested after 20 and before 21'
+  -- T-03: 'Seeking a name must refuse with a new number 22 when more than one entry has it, tested after 20 and before
+  -- 21'
   pub none-named : (b name : List ℕ) → (Cpd.number b name ≡ 20) ↔ NoneNamed b name
   pub shared : (b name : List ℕ) → (Cpd.number b name ≡ 22) ↔ SharedName b name
   pub beyond : (b name : List ℕ) → (Cpd.number b name ≡ 21) ↔ PartBeyond b name
@@ -154,11 +160,14 @@ pub record InsideDirectories : Type 0 where
   pub manifest-shared : (b : List ℕ) → (manifestReading b .number ≡ 22) ↔ SharedName b manifestName
   pub huc-shared : (which : Component) (b : List ℕ) → (hucLocated which b .code ≡ 22) ↔ SharedName b hucName
   pub huc-shared-reading : (b : List ℕ) → (hucReading b .number ≡ 22) ↔ SharedName b hucName
-  -- 'a part inside a directory is judged only after the directory's own numbers, 14 to 21, have passed', 22 among them: until then they are the answer
+  -- 'a part inside a directory is judged only after the directory's own numbers, 14 to 21, have passed', 22 among them:
+  -- until then they are the answer
   pub huc-outside :
-      (which : Component) (b : List ℕ) → (Cpd.number b hucName ≡ 0 → ⊥) → EmptyAtStart (Cpd.number b hucName) (hucLocated which b)
+      (which : Component) (b : List ℕ) → (Cpd.number b hucName ≡ 0 → ⊥)
+      → EmptyAtStart (Cpd.number b hucName) (hucLocated which b)
   pub huc-outside-reading :
-      (b : List ℕ) → (Cpd.number b hucName ≡ 0 → ⊥) → (hucReading b .number ≡ Cpd.number b hucName) × (hucReading b .version ≡ [])
+      (b : List ℕ) → (Cpd.number b hucName ≡ 0 → ⊥)
+      → (hucReading b .number ≡ Cpd.number b hucName) × (hucReading b .version ≡ [])
   pub huc-inside :
       (b : List ℕ) → Cpd.number b hucName ≡ 0 → HucInside b (bytesOf b (Cpd.located b hucName)) (Cpd.located b hucName .start)
   pub huc-answer :

@@ -1,4 +1,5 @@
--- CSS images agree with document 01, 'Firmware images': what the functions answer of any blob, said in the paper's figures and not by how it is worked out.
+-- CSS images agree with document 01, 'Firmware images': what the functions answer of any blob, said in the paper's
+-- figures and not by how it is worked out.
 use Prim.Native.Nat.{ℕ, _+_, _-_, _*_, _/_, _%_, _≤_, _<_, _^_}
 use mathlib.Core.Path.{_≡_}
 use mathlib.Core.Logic.{_↔_}
@@ -39,7 +40,8 @@ pub record VeryBytes (blob : RefT (List ℕ)) (l : Located) (part : RefT (List �
   pub block : ptr part .0 ≡ ptr blob .0
   pub place : ptr part .1 ≡ l .start + ptr blob .1
 
--- 'Dwords: 1 = h (all that is not uCode), 6 = s (all), 7 = k (RSA), 8 = m (modulus), 9 = e (exponent), 16 = version'; 'Sizes are in dwords.'
+-- 'Dwords: 1 = h (all that is not uCode), 6 = s (all), 7 = k (RSA), 8 = m (modulus), 9 = e (exponent), 16 = version';
+-- 'Sizes are in dwords.'
 abbrev pub h : List ℕ → ℕ
 h b = Css.headerDword b 1
 
@@ -58,7 +60,8 @@ e b = Css.headerDword b 9
 abbrev pub versionDword : List ℕ → ℕ
 versionDword b = Css.headerDword b 16
 
--- 'at least 128 bytes'; 'Over whole numbers h = 32 + k + m + e, k at least 1, s above h'; 'Bytes 128 + 4(s - h) + 4k must be there'
+-- 'at least 128 bytes'; 'Over whole numbers h = 32 + k + m + e, k at least 1, s above h'; 'Bytes 128 + 4(s - h) + 4k
+-- must be there'
 pub record IsImage (b : List ℕ) : Type 0 where
   pub has-header : 128 ≤ length b
   pub sum : h b ≡ 32 + k b + m b + e b
@@ -71,8 +74,8 @@ pub record ImageParts (b : List ℕ) : Type 0 where
   -- 'Order: header, uCode, RSA, modulus, exponent.': uCode lies past the header, the RSA past it
   pub ucode : At 128 (4 * (s b - h b)) (Css.located Ucode b)
   pub rsa : At (endOf (Css.located Ucode b)) (4 * k b) (Css.located Rsa b)
-  -- 'Modulus and exponent are shown when the blob has at least 4s bytes': past the RSA, and the exponent past the modulus. 'Bytes past 4s belong to no
-  -- part.': the last one ends there
+  -- 'Modulus and exponent are shown when the blob has at least 4s bytes': past the RSA, and the exponent past the
+  -- modulus. 'Bytes past 4s belong to no part.': the last one ends there
   pub modulus : 4 * s b ≤ length b → At (endOf (Css.located Rsa b)) (4 * m b) (Css.located Modulus b)
   pub exponent : 4 * s b ≤ length b → At (endOf (Css.located Modulus b)) (4 * e b) (Css.located Exponent b)
   pub ends-at-4s : 4 * s b ≤ length b → endOf (Css.located Exponent b) ≡ 4 * s b

@@ -1,5 +1,6 @@
--- What is sent and what is handed out is judged on the very dwords used, of every state, message, descriptor and buffer: the dwords that an accepted call stores
--- or lays are those that it judged, they are a well-formed message, and it leaves the state and the memory that the paper says, and nothing else.
+-- What is sent and what is handed out is judged on the very dwords used, of every state, message, descriptor and
+-- buffer: the dwords that an accepted call stores or lays are those that it judged, they are a well-formed message, and
+-- it leaves the state and the memory that the paper says, and nothing else.
 use Prim.Native.Nat.{ℕ, _+_, _-_, _%_, _≤_}
 use mathlib.Core.Path.{_≡_}
 use mathlib.Core.Bool.{true}
@@ -23,7 +24,8 @@ IdleAgain s own next = next ≡ state (s .n) own 0 0 zeros
 
 -- ---- a send
 
--- 'An active state carries its own copy of the message (up to 256 dwords), ..; a look leaves zeros in the copy's other places.'
+-- 'An active state carries its own copy of the message (up to 256 dwords), ..; a look leaves zeros in the copy's other
+-- places.'
 pub record LookedAt (s : State) (m d b : List ℕ) (x : Outcome) : Type 0 where
   pub is-message : isMessage m ≡ true
   pub next : x .next ≡ state (s .n) (s .own) (length m) 0 (m ++ replicate (256 - length m) 0)
@@ -71,7 +73,8 @@ pub record DwordTaken (s : State) (d b : List ℕ) (x : Outcome) : Type 0 where
   pub desc : x .desc ≡ d
   pub buf : x .buf ≡ b
 
--- 'publish HEAD = (own head + L) mod N and lay the L dwords at the front of the output, the rest of it unchanged', of this message
+-- 'publish HEAD = (own head + L) mod N and lay the L dwords at the front of the output, the rest of it unchanged', of
+-- this message
 pub record HandedOut (s : State) (m o d b : List ℕ) (x : Outcome) : Type 0 where
   pub is-message : isMessage m ≡ true
   pub len : x .len ≡ length m

@@ -1,4 +1,5 @@
--- The loopback's three calls in code, each on what the one before left, are the loop of the definitions. Assumes nothing.
+-- The loopback's three calls in code, each on what the one before left, are the loop of the definitions. Assumes
+-- nothing.
 use mathlib.Core.Path.{_≡_, refl, sym, ap, _∙_}
 use mathlib.Core.List.{List}
 use Prim.Native.Nat.{ℕ, suc}
@@ -31,14 +32,17 @@ opens-allowed d b e =
     passed (allowed (length b)) 2 0 0 refl (passed-rest (eqb (length d) 16) 1 (need (allowed (length b)) 2 0) 0 refl e)
 
 pub loop-calls :
-    (d b m o : List ℕ) (x : Opened) (d₁ : List ℕ) (s : Sent) (d₂ b₂ : List ℕ) (r : Received) (d₃ o₃ : List ℕ) → opened x d₁ b ≡ opening d b
-    → sent s d₂ b₂ ≡ Send.whole (ofSender (x .sender)) m d₁ b → received r d₃ b₂ o₃ ≡ Receive.whole (ofReceiver (x .receiver)) o d₂ b₂
+    (d b m o : List ℕ) (x : Opened) (d₁ : List ℕ) (s : Sent) (d₂ b₂ : List ℕ) (r : Received) (d₃ o₃ : List ℕ)
+    → opened x d₁ b ≡ opening d b
+    → sent s d₂ b₂ ≡ Send.whole (ofSender (x .sender)) m d₁ b
+    → received r d₃ b₂ o₃ ≡ Receive.whole (ofReceiver (x .receiver)) o d₂ b₂
     → looped (record { opened = x .code; sent = s .code; received = r .code; len = r .len }) d₃ b₂ o₃ ≡ loop d b m o
 unfolding loop begun
 loop-calls d b m o x d₁ s d₂ b₂ r d₃ o₃ e f g =
     let send : sent s d₂ b₂ ≡ firstSend d b m = f ∙ ap (λ (y : Opening). Send.whole (y .sender) m (y .desc) (y .buf)) e in
     let receive : received r d₃ b₂ o₃ ≡ firstReceive d b m o =
-    g ∙ ap (λ (y : Opening). Receive.whole (y .receiver) o d₂ b₂) e ∙ ap (λ (y : Outcome). Receive.whole (opening d b .receiver) o (y .desc) (y .buf)) send in
+    g ∙ ap (λ (y : Opening). Receive.whole (y .receiver) o d₂ b₂) e
+    ∙ ap (λ (y : Outcome). Receive.whole (opening d b .receiver) o (y .desc) (y .buf)) send in
     λ i. record {
       opened = e i .code;
       sent = send i .code;

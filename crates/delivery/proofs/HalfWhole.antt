@@ -18,7 +18,9 @@ use Rattle.delivery.specs.HalfWhole.{HalfWhole, goesOn, halfWhole, left,
 abbrev later : Side → ℕ → Outcome → Outcome
 later side k r = moves (gives (moveOf side)) k r
 
-later-leaves : (side : Side) (k : ℕ) (x : Channel) (r : Outcome) → withNext side x (later side k r) ≡ end (withNext side x r) (movesOf side k)
+later-leaves :
+    (side : Side) (k : ℕ) (x : Channel) (r : Outcome)
+    → withNext side x (later side k r) ≡ end (withNext side x r) (movesOf side k)
 unfolding moves end
 later-leaves theSender zero x r = refl
 later-leaves theSender (suc k) x r = later-leaves theSender k x (later theSender 1 r)
@@ -30,9 +32,11 @@ later-last :
     → run (withNext side x r) (movesOf side k) ++ (seen (later side (suc k) r) ∷ []) ≡ run (withNext side x r) (movesOf side (suc k))
 unfolding moves run
 later-last theSender zero x r = refl
-later-last theSender (suc k) x r = ap (λ (l : List Seen). seen (later theSender 1 r) ∷ l) (later-last theSender k x (later theSender 1 r))
+later-last theSender (suc k) x r =
+    ap (λ (l : List Seen). seen (later theSender 1 r) ∷ l) (later-last theSender k x (later theSender 1 r))
 later-last theReceiver zero x r = refl
-later-last theReceiver (suc k) x r = ap (λ (l : List Seen). seen (later theReceiver 1 r) ∷ l) (later-last theReceiver k x (later theReceiver 1 r))
+later-last theReceiver (suc k) x r =
+    ap (λ (l : List Seen). seen (later theReceiver 1 r) ∷ l) (later-last theReceiver k x (later theReceiver 1 r))
 
 -- the channel before the first of them
 abbrev first : Side → Channel → Outcome
@@ -44,7 +48,9 @@ unfolding allMovesBy
 accepted theSender x z = rw z
 accepted theReceiver x z = rw z
 
-refuses : (side : Side) (x : Channel) → eqb (goesOn side x) 0 ≡ false → (withNext side x (halfWhole side x) ≡ x) × (halfWhole side x .code ≡ goesOn side x)
+refuses :
+    (side : Side) (x : Channel) → eqb (goesOn side x) 0 ≡ false
+    → (withNext side x (halfWhole side x) ≡ x) × (halfWhole side x .code ≡ goesOn side x)
 unfolding allMovesBy
 refuses theSender x z = (rw z, rw z)
 refuses theReceiver x z = (rw z, rw z)
@@ -68,7 +74,8 @@ last :
     → run x (movesOf side k) ++ (seen (halfWhole side x) ∷ []) ≡ run x (movesOf side (suc k))
 last side x k z e =
     let s = later-last side k x (first side x) in
-    let h : halfWhole side x ≡ later side (suc k) (first side x) = accepted side x z ∙ ap (λ (j : ℕ). later side j (first side x)) e in
+    let h : halfWhole side x ≡ later side (suc k) (first side x) =
+    accepted side x z ∙ ap (λ (j : ℕ). later side j (first side x)) e in
     rw h (rw (same-channel side x) at s)
 
 answers :

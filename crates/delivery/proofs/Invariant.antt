@@ -1,5 +1,5 @@
--- The channel's states, descriptor and buffer as a function of the plain channel, and what holds of the plain channel always.
--- Assumes nothing.
+-- The channel's states, descriptor and buffer as a function of the plain channel, and what holds of the plain channel
+-- always. Assumes nothing.
 use mathlib.Core.Path.{_≡_, refl}
 use mathlib.Core.Bool.{Bool, true, false, not}
 use mathlib.Core.List.{List, [], _∷_, _++_}
@@ -124,12 +124,16 @@ module _ (p : Plain) (g : Inv p) where
 
   pub look-needs-send :
       (r : ℕ)
-      → lookNeeds (length (p .buf)) (p .P % p .n) (tail (descriptor p)) (status (descriptor p)) (head (descriptor p)) (tail (descriptor p)) r ≡ r
+      → lookNeeds (length (p .buf)) (p .P % p .n) (tail (descriptor p)) (status (descriptor p)) (head (descriptor p))
+      (tail (descriptor p)) r
+      ≡ r
   unfolding descriptor lookNeeds need
   look-needs-send r = rw (g .size, lt-ltb _ _ own-receive, lt-ltb _ _ own-send, eq-eqb (p .P % p .n) (p .P % p .n) refl)
 
   pub look-needs-receive :
       (r : ℕ)
-      → lookNeeds (length (p .buf)) (p .R % p .n) (head (descriptor p)) (status (descriptor p)) (head (descriptor p)) (tail (descriptor p)) r ≡ r
+      → lookNeeds (length (p .buf)) (p .R % p .n) (head (descriptor p)) (status (descriptor p)) (head (descriptor p))
+      (tail (descriptor p)) r
+      ≡ r
   unfolding descriptor lookNeeds need
   look-needs-receive r = rw (g .size, lt-ltb _ _ own-receive, lt-ltb _ _ own-send, eq-eqb (p .R % p .n) (p .R % p .n) refl)

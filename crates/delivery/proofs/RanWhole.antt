@@ -1,4 +1,5 @@
--- What is to be shown of each operation beside its answer: the messages, the dwords not released, and the calls run whole. Assumes nothing.
+-- What is to be shown of each operation beside its answer: the messages, the dwords not released, and the calls run
+-- whole. Assumes nothing.
 use mathlib.Core.Path.{_≡_, refl, ap, _∙_}
 use mathlib.Core.List.{List, [], _∷_, _++_, map, append-nil}
 use Prim.Native.Nat.{ℕ}
@@ -36,18 +37,27 @@ pub record RanWhole (p : Plain) (z : List ℕ) (x : PlainOutcome) (cs : List Cal
   pub gave : map result (plainRun (serialOf p z) (wholes cs)) ≡ answers cs
 
 pub record StepFacts (p : Plain) (o : Op) (x : PlainOutcome) : Type 0 where
-  pub flow : (c : List ℕ) → HoldsMessage c (p .send) → p .queue ++ publishedBy c o (plainSeen x) ≡ receivedBy o (plainSeen x) ++ x .next .queue
+  pub flow :
+      (c : List ℕ) → HoldsMessage c (p .send)
+      → p .queue ++ publishedBy c o (plainSeen x) ≡ receivedBy o (plainSeen x) ++ x .next .queue
   pub holds : (c : List ℕ) → HoldsMessage c (p .send) → HoldsMessage (held c o (plainSeen x)) (x .next .send)
   pub keeps : (j : ℕ) → Unreleased p j → getD (x .next .buf) j 0 ≡ getD (p .buf) j 0
-  pub ran : (c : List ℕ) → HoldsMessage c (p .send) → (e : List ℕ) → length e ≡ 256 → (z : List ℕ) → Lacks p z → RanWhole p z x (endedBy e c o (plainSeen x))
+  pub ran :
+      (c : List ℕ) → HoldsMessage c (p .send) → (e : List ℕ) → length e ≡ 256 → (z : List ℕ) → Lacks p z
+      → RanWhole p z x (endedBy e c o (plainSeen x))
 
 -- nothing ended, nothing changed for the calls run whole
-pub same-run : (p : Plain) (z : List ℕ) (x : PlainOutcome) → serialOf p z ≡ serialOf (x .next) z → Lacks (x .next) z → RanWhole p z x []
+pub same-run :
+    (p : Plain) (z : List ℕ) (x : PlainOutcome) → serialOf p z ≡ serialOf (x .next) z → Lacks (x .next) z
+    → RanWhole p z x []
 unfolding plainEnd plainRun
 same-run p z x e l = record { z′ = z; lin = l; to = e; gave = refl }
 
 -- one call ended: w, answered g
-pub one-run : (p : Plain) (z z′ : List ℕ) (x y : PlainOutcome) (w : Op) (g : Result) → plainOutcome (serialOf p z) w ≡ y → y .next ≡ serialOf (x .next) z′ → result (plainSeen y) ≡ g → Lacks (x .next) z′ → RanWhole p z x (record { op = w; answer = g } ∷ [])
+pub one-run :
+    (p : Plain) (z z′ : List ℕ) (x y : PlainOutcome) (w : Op) (g : Result) → plainOutcome (serialOf p z) w ≡ y
+    → y .next ≡ serialOf (x .next) z′ → result (plainSeen y) ≡ g → Lacks (x .next) z′
+    → RanWhole p z x (record { op = w; answer = g } ∷ [])
 unfolding plainEnd plainRun
 one-run p z z′ x y w g e f h l =
     record {
@@ -60,7 +70,8 @@ one-run p z z′ x y w g e f h l =
 -- a refusal that ends no call
 pub no-facts :
     (p : Plain) (o : Op) (c : ℕ) (w : List ℕ)
-    → ((k : List ℕ) → publishedBy k o (plainSeen (refusal c w p)) ≡ []) → receivedBy o (plainSeen (refusal c w p)) ≡ [] → ((k : List ℕ) → held k o (plainSeen (refusal c w p)) ≡ k)
+    → ((k : List ℕ) → publishedBy k o (plainSeen (refusal c w p)) ≡ [])
+    → receivedBy o (plainSeen (refusal c w p)) ≡ [] → ((k : List ℕ) → held k o (plainSeen (refusal c w p)) ≡ k)
     → ((e k : List ℕ) → endedBy e k o (plainSeen (refusal c w p)) ≡ []) → StepFacts p o (refusal c w p)
 no-facts p o c w s l k e =
     record {

@@ -22,9 +22,12 @@ use Rattle.ring.proofs.Chains.{ok}
 use Rattle.message.proofs.Tests.{cases}
 use Rattle.channel.proofs.Fits.{busy-active-receive, busy-idle, idle-active-receive, idle-idle}
 use Rattle.runs.proofs.Ring.{window-append, window-at, window-length}
-use Rattle.delivery.specs.Plain.{PlainOutcome, Plain, Receiving, Sending, descriptor, first, notReceiving, notSending, receiving, sending}
+use Rattle.delivery.specs.Plain.{PlainOutcome, Plain, Receiving, Sending, descriptor}
+use Rattle.delivery.specs.Plain.{first, notReceiving, notSending, receiving, sending}
 use Rattle.delivery.specs.Plain
-use Rattle.delivery.proofs.Invariant.{Inv, InvSend, bad, below-is, empty-receiving, first-needs-ok, look-needs-receive, own-receive, plain, receiveState, receiverOf, senderOf, used-eq}
+use Rattle.delivery.proofs.Invariant.{Inv, InvSend, bad, below-is, empty-receiving}
+use Rattle.delivery.proofs.Invariant.{first-needs-ok, look-needs-receive, own-receive, plain, receiveState}
+use Rattle.delivery.proofs.Invariant.{receiverOf, senderOf, used-eq}
 use Rattle.delivery.proofs.Queue.{flat}
 
 abbrev pub asReceiver : PlainOutcome → Outcome
@@ -37,9 +40,13 @@ pub record ReceiveSim (p : Plain) (a : Outcome) (x : PlainOutcome) : Type 0 wher
   pub good : Inv (x .next)
 
 module _ (n : ℕ) (b : List ℕ) (P R : ℕ) (s : Sending) where
+  -- the plain channel, by its queue and receiver
+  abbrev chan : List (List ℕ) → Receiving → Plain
+  chan q r = plain n b q P R s r
+
   -- ---- what is read of the first message
 
-  module _ (m : List ℕ) (q : List (List ℕ)) (r : Receiving) (g : Inv (plain n b (m ∷ q) P R s r)) where
+  module _ (m : List ℕ) (q : List (List ℕ)) (r : Receiving) (g : Inv (chan (m ∷ q) r)) where
     first-size : length (flat (m ∷ q)) ≡ length m + length (flat q)
     unfolding flat
     first-size = length-append m (flat q)
@@ -47,7 +54,8 @@ module _ (n : ℕ) (b : List ℕ) (P R : ℕ) (s : Sending) where
     first-dword : (j : ℕ) → j < length m → getD b ((R + j) % n) 0 ≡ getD m j 0
     unfolding flat
     first-dword j h =
-        sym (window-at b n R (length (flat (m ∷ q))) j (omega (arith, first-size))) ∙ ap (λ (l : List ℕ). getD l j 0) (g .in-buffer) ∙ List·getD-append m (flat q) 0 j h
+        sym (window-at b n R (length (flat (m ∷ q))) j (omega (arith, first-size)))
+        ∙ ap (λ (l : List ℕ). getD l j 0) (g .in-buffer) ∙ List·getD-append m (flat q) 0 j h
 
     first-header : getD b (R % n) 0 ≡ getD m 0 0
     first-header =
@@ -62,29 +70,39 @@ module _ (n : ℕ) (b : List ℕ) (P R : ℕ) (s : Sending) where
 
   -- ---- look
 
-  pub fits-idle : (q : List (List ℕ)) → Inv (plain n b q P R s notReceiving) → idle (length b) (receiveState n R (first q) notReceiving) ≡ true
+  pub fits-idle : (q : List (List ℕ)) → Inv (chan q notReceiving) → idle (length b) (receiveState n R (first q) notReceiving) ≡ true
   fits-idle q g = rw (g .size) (idle-idle n (R % n) (own-receive _ g))
 
-  pub fits-not : (q : List (List ℕ)) (k : ℕ) → Inv (plain n b q P R s (receiving k)) → idle (length b) (receiveState n R (first q) (receiving k)) ≡ false
+  pub fits-not :
+      (q : List (List ℕ)) (k : ℕ) → Inv (chan q (receiving k))
+      → idle (length b) (receiveState n R (first q) (receiving k)) ≡ false
   fits-not q k g =
-      rw (g .size) (busy-idle n (R % n) (own-receive _ g) (length (first q)) k _ (omega (arith, message-long (first q) (g .receive .is-message))))
+      rw (g .size)
+      (busy-idle n (R % n) (own-receive _ g) (length (first q)) k _
+      (omega (arith, message-long (first q) (g .receive .is-message))))
 
   look-code :
-      (q : List (List ℕ)) (r : Receiving) → Inv (plain n b q P R s r)
-      → Receive.lookNumber (receiveState n R (first q) r) (descriptor (plain n b q P R s r)) b ≡ Plain.receiveLookNumber (plain n b q P R s r)
+      (q : List (List ℕ)) (r : Receiving) → Inv (chan q r)
+      → Receive.lookNumber (receiveState n R (first q) r) (descriptor (chan q r)) b ≡ Plain.receiveLookNumber (chan q r)
   unfolding receiveDecision receiveLookNeeds Plain.receiveLookNumber
   look-code [] notReceiving g =
       first-needs-ok _ g _ _ ∙ ok 3 (fits-idle [] g) ∙ look-needs-receive _ g _ ∙ rw (used-eq _ g) (unfold flat need in refl)
   look-code (m ∷ q) notReceiving g =
-      first-needs-ok _ g _ _ ∙ ok 3 (fits-idle (m ∷ q) g) ∙ look-needs-receive _ g _ ∙ rw (used-eq _ g, ne-eqb _ 0 (nonempty m q notReceiving g), first-length m q notReceiving g, le-leb (length m) (length (flat (m ∷ q))) (omega (arith, first-size m q notReceiving g))) (unfold need in refl)
+      let l = le-leb (length m) (length (flat (m ∷ q))) (omega (arith, first-size m q notReceiving g)) in
+      first-needs-ok _ g _ _
+      ∙ ok 3 (fits-idle (m ∷ q) g)
+      ∙ look-needs-receive _ g _
+      ∙ rw (used-eq _ g, ne-eqb _ 0 (nonempty m q notReceiving g), first-length m q notReceiving g, l) (unfold need in refl)
   look-code q (receiving k) g = first-needs-ok _ g _ _ ∙ bad _ (fits-not q k g)
 
   sim-look :
-      (q : List (List ℕ)) (r : Receiving) → Inv (plain n b q P R s r)
-      → ReceiveSim (plain n b q P R s r) (Receive.look (receiveState n R (first q) r) (descriptor (plain n b q P R s r)) b) (Plain.receiveLook (plain n b q P R s r))
+      (q : List (List ℕ)) (r : Receiving) → Inv (chan q r)
+      → ReceiveSim (chan q r) (Receive.look (receiveState n R (first q) r) (descriptor (chan q r)) b) (Plain.receiveLook (chan q r))
   unfolding Receive.lookBy marked Plain.receiveLookBy Plain.receiveLookNumber descriptor need
   sim-look [] notReceiving g = rw (look-code [] notReceiving g) (record { same = refl; other = refl; good = g })
   sim-look (m ∷ q) notReceiving g =
+      let long : 2 ≤ length m = message-long m (g .all-messages .0) in
+      let one : getD m 0 0 ∷ [] ≡ take 1 m = sym (take-suc m 0 0 (omega arith)) in
       rw (look-code (m ∷ q) notReceiving g)
       (record {
         same =
@@ -97,9 +115,9 @@ module _ (n : ℕ) (b : List ℕ) (P R : ℕ) (s : Sending) where
                     own = R % n;
                     len = first-length m q notReceiving g i;
                     moved = 1;
-                    copy = (ap (λ (x : ℕ). x ∷ []) (first-header m q notReceiving g) ∙ sym (take-suc m 0 0 (omega (arith, message-long m (g .all-messages .0))))) i ++ replicate 255 0;
+                    copy = (ap (λ (x : ℕ). x ∷ []) (first-header m q notReceiving g) ∙ one) i ++ replicate 255 0;
                   };
-              desc = descriptor (plain n b (m ∷ q) P R s notReceiving);
+              desc = descriptor (chan (m ∷ q) notReceiving);
               buf = b;
               out = [];
             };
@@ -113,49 +131,68 @@ module _ (n : ℕ) (b : List ℕ) (P R : ℕ) (s : Sending) where
               in-buffer = g .in-buffer;
               all-messages = g .all-messages;
               send = g .send;
-              receive = record { is-message = g .all-messages .0; start = omega arith; up-to = omega (arith, message-long m (g .all-messages .0)) };
+              receive = record { is-message = g .all-messages .0; start = omega arith; up-to = omega arith };
             };
       })
   sim-look q (receiving k) g = rw (look-code q (receiving k) g) (record { same = refl; other = refl; good = g })
 
   -- ---- move
 
+  -- the receiver's copy when k dwords of m are moved
+  abbrev copied : ℕ → List ℕ → List ℕ
+  copied k m = take k m ++ replicate (256 - k) 0
+
   module _ (k : ℕ) (m : List ℕ) (j : ℕ) (lo : j < k) (hi : k ≤ length m) where
-    copied-at : getD (take k m ++ replicate (256 - k) 0) j 0 ≡ getD m j 0
+    copied-at : getD (copied k m) j 0 ≡ getD m j 0
     copied-at =
         List·getD-append (take k m) (replicate (256 - k) 0) 0 j (omega (arith, length-take-le k m hi)) ∙ getD-take k m j 0 lo
 
-  fits-active : (q : List (List ℕ)) (k : ℕ) → Inv (plain n b q P R s (receiving k)) → activeReceive (length b) (receiveState n R (first q) (receiving k)) ≡ true
+  fits-active :
+      (q : List (List ℕ)) (k : ℕ) → Inv (chan q (receiving k))
+      → activeReceive (length b) (receiveState n R (first q) (receiving k)) ≡ true
   fits-active q k g =
       let f : isMessage (first q) ≡ true = g .receive .is-message in
       let l : 2 ≤ length (first q) = message-long (first q) f in
+      let lo : 1 ≤ k = g .receive .start in
+      let hi : k ≤ length (first q) = g .receive .up-to in
+      let e : length (first q) ≡ totalLength (getD (copied k (first q)) 0 0) =
+      message-length (first q) f ∙ ap totalLength (sym (copied-at k (first q) 0 lo hi)) in
       rw (g .size)
-      (busy-active-receive n (R % n) (own-receive _ g) (length (first q)) k _ (omega arith) (message-short (first q) f) (g .receive .start) (g .receive .up-to) (message-length (first q) f ∙ ap totalLength (sym (copied-at k (first q) 0 (g .receive .start) (g .receive .up-to)))))
+      (busy-active-receive n (R % n) (own-receive _ g) (length (first q)) k _ (omega arith) (message-short (first q) f) lo hi e)
 
-  fits-not-active : (q : List (List ℕ)) → Inv (plain n b q P R s notReceiving) → activeReceive (length b) (receiveState n R (first q) notReceiving) ≡ false
+  fits-not-active :
+      (q : List (List ℕ)) → Inv (chan q notReceiving)
+      → activeReceive (length b) (receiveState n R (first q) notReceiving) ≡ false
   fits-not-active q g = rw (g .size) (idle-active-receive n (R % n) (own-receive _ g))
 
   move-code :
-      (q : List (List ℕ)) (r : Receiving) → Inv (plain n b q P R s r)
-      → Receive.moveNumber (receiveState n R (first q) r) (descriptor (plain n b q P R s r)) b ≡ Plain.receiveMoveNumber (plain n b q P R s r)
+      (q : List (List ℕ)) (r : Receiving) → Inv (chan q r)
+      → Receive.moveNumber (receiveState n R (first q) r) (descriptor (chan q r)) b ≡ Plain.receiveMoveNumber (chan q r)
   unfolding Receive.moveNumber Plain.receiveMoveNumber
   move-code q notReceiving g = first-needs-ok _ g _ _ ∙ bad _ (fits-not-active q g)
   move-code q (receiving k) g =
-      first-needs-ok _ g _ _ ∙ ok 3 (fits-active q k g) ∙ ap (λ (t : Bool). need t 12 0) (below-is k (length (first q)) (g .receive .up-to))
+      first-needs-ok _ g _ _ ∙ ok 3 (fits-active q k g)
+      ∙ ap (λ (t : Bool). need t 12 0) (below-is k (length (first q)) (g .receive .up-to))
 
   copy-on :
-      (q : List (List ℕ)) (k : ℕ) → Inv (plain n b q P R s (receiving k)) → k < length (first q)
-      → set (take k (first q) ++ replicate (256 - k) 0) k (getD b ((R % n + k) % length b) 0) ≡ take (k + 1) (first q) ++ replicate (256 - (k + 1)) 0
+      (q : List (List ℕ)) (k : ℕ) → Inv (chan q (receiving k)) → k < length (first q)
+      → set (copied k (first q)) k (getD b ((R % n + k) % length b) 0) ≡ copied (k + 1) (first q)
   copy-on [] k g h = empty-receiving k (g .receive)
   copy-on (m ∷ q) k g h =
       let e : 256 - k ≡ suc (256 - (k + 1)) = omega (arith, message-short m (g .receive .is-message)) in
       let v : getD b ((R % n + k) % length b) 0 ≡ getD m k 0 = rw (g .size, mod-add-mod) (first-dword m q (receiving k) g k h) in
       let z : List ℕ = replicate (256 - (k + 1)) 0 in
-      ap (λ (x : ℕ). set (take k m ++ replicate x 0) k (getD b ((R % n + k) % length b) 0)) e ∙ set-at (take k m) 0 z _ k (length-take-le k m (omega arith)) ∙ ap (λ (x : ℕ). take k m ++ x ∷ z) v ∙ sym (append-snoc (take k m) (getD m k 0) z) ∙ ap (λ (l : List ℕ). l ++ z) (sym (take-suc m k 0 h) ∙ ap (λ (x : ℕ). take x m) (sym (add-one k)))
+      let t : take k m ++ (getD m k 0 ∷ []) ≡ take (k + 1) m =
+      sym (take-suc m k 0 h) ∙ ap (λ (x : ℕ). take x m) (sym (add-one k)) in
+      ap (λ (x : ℕ). set (take k m ++ replicate x 0) k (getD b ((R % n + k) % length b) 0)) e
+      ∙ set-at (take k m) 0 z _ k (length-take-le k m (omega arith))
+      ∙ ap (λ (x : ℕ). take k m ++ x ∷ z) v
+      ∙ sym (append-snoc (take k m) (getD m k 0) z)
+      ∙ ap (λ (l : List ℕ). l ++ z) t
 
   sim-move :
-      (q : List (List ℕ)) (r : Receiving) → Inv (plain n b q P R s r)
-      → ReceiveSim (plain n b q P R s r) (Receive.move (receiveState n R (first q) r) (descriptor (plain n b q P R s r)) b) (Plain.receiveMove (plain n b q P R s r))
+      (q : List (List ℕ)) (r : Receiving) → Inv (chan q r)
+      → ReceiveSim (chan q r) (Receive.move (receiveState n R (first q) r) (descriptor (chan q r)) b) (Plain.receiveMove (chan q r))
   unfolding Receive.moveBy Plain.receiveMoveBy Plain.receiveMoveNumber descriptor need
   sim-move q notReceiving g = rw (move-code q notReceiving g) (record { same = refl; other = refl; good = g })
   sim-move q (receiving k) g =
@@ -185,37 +222,51 @@ module _ (n : ℕ) (b : List ℕ) (P R : ℕ) (s : Sending) where
   -- ---- publish
 
   pub-code :
-      (q : List (List ℕ)) (r : Receiving) (o : List ℕ) → Inv (plain n b q P R s r)
-      → Receive.publishNumber (receiveState n R (first q) r) o (descriptor (plain n b q P R s r)) b ≡ Plain.receivePublishNumber (plain n b q P R s r) o
+      (q : List (List ℕ)) (r : Receiving) (o : List ℕ) → Inv (chan q r)
+      → Receive.publishNumber (receiveState n R (first q) r) o (descriptor (chan q r)) b ≡ Plain.receivePublishNumber (chan q r) o
   unfolding Receive.publishNumberOf Plain.receivePublishNumber
   pub-code q notReceiving o g = first-needs-ok _ g _ _ ∙ bad _ (fits-not-active q g)
   pub-code q (receiving k) o g =
-      first-needs-ok _ g _ _ ∙ ok 3 (fits-active q k g) ∙ ap (need (leb 256 (length o)) 5) (cases (leb (length (first q)) k)
+      first-needs-ok _ g _ _
+      ∙ ok 3 (fits-active q k g)
+      ∙ ap (need (leb 256 (length o)) 5) (cases (leb (length (first q)) k)
       (λ e. ap (need (leb (length (first q)) k) 12) (ok 13 (copy-formed e)))
       (λ e. bad _ e ∙ sym (bad _ e)))
     where
-      copy-formed : leb (length (first q)) k ≡ true → wellFormed (getD (take k (first q) ++ replicate (256 - k) 0) 0 0) (getD (take k (first q) ++ replicate (256 - k) 0) 1 0) ≡ true
+      copy-formed :
+          leb (length (first q)) k ≡ true → wellFormed (getD (copied k (first q)) 0 0) (getD (copied k (first q)) 1 0) ≡ true
       copy-formed e =
           let h : length (first q) ≤ k = leb-true (length (first q)) k e in
-          let l : 2 ≤ length (first q) = message-long (first q) (g .receive .is-message) in
-          rw (copied-at k (first q) 0 (g .receive .start) (g .receive .up-to), copied-at k (first q) 1 (omega arith) (g .receive .up-to)) (message-formed (first q) (g .receive .is-message))
+          let f : isMessage (first q) ≡ true = g .receive .is-message in
+          let l : 2 ≤ length (first q) = message-long (first q) f in
+          let hi : k ≤ length (first q) = g .receive .up-to in
+          rw (copied-at k (first q) 0 (g .receive .start) hi, copied-at k (first q) 1 (omega arith) hi) (message-formed (first q) f)
 
-  shorter-s : (m : List ℕ) (q : List (List ℕ)) (x : Sending) → length (flat (m ∷ q)) ≡ length m + length (flat q) → InvSend n b (m ∷ q) P x → InvSend n b q P x
+  shorter-s :
+      (m : List ℕ) (q : List (List ℕ)) (x : Sending) → length (flat (m ∷ q)) ≡ length m + length (flat q)
+      → InvSend n b (m ∷ q) P x
+      → InvSend n b q P x
   shorter-s m q notSending e g = tt
   shorter-s m q (sending k y) e g = record { is-message = g .is-message; up-to = g .up-to; fits = omega (arith, g .fits); done = g .done }
 
-  released-good : (m : List ℕ) (q : List (List ℕ)) (r : Receiving) → Inv (plain n b (m ∷ q) P R s r) → Inv (plain n b q P (R + length m) s notReceiving)
+  released-good :
+      (m : List ℕ) (q : List (List ℕ)) (r : Receiving) → Inv (chan (m ∷ q) r)
+      → Inv (plain n b q P (R + length m) s notReceiving)
   unfolding flat
   released-good m q r g =
       let e : length (flat (m ∷ q)) ≡ length m + length (flat q) = first-size m q r g in
       let w : List ℕ = window b n R (length m) in
-      let t : w ++ window b n (R + length m) (length (flat q)) ≡ m ++ flat q = sym (window-append b n R (length m) (length (flat q))) ∙ ap (λ (x : ℕ). window b n R x) (sym e) ∙ g .in-buffer in
+      let t : w ++ window b n (R + length m) (length (flat q)) ≡ m ++ flat q =
+      sym (window-append b n R (length m) (length (flat q))) ∙ ap (λ (x : ℕ). window b n R x) (sym e)
+      ∙ g .in-buffer in
       record {
         allowed-n = g .allowed-n;
         size = g .size;
         count = omega (arith, g .count);
         room = omega (arith, g .room);
-        in-buffer = sym (drop-at w _ (length m) (window-length b n R (length m))) ∙ ap (drop (length m)) t ∙ drop-append-seam m (flat q);
+        in-buffer =
+            sym (drop-at w _ (length m) (window-length b n R (length m))) ∙ ap (drop (length m)) t
+            ∙ drop-append-seam m (flat q);
         all-messages = g .all-messages .1;
         send = shorter-s m q s e (g .send);
         receive = tt;
@@ -225,11 +276,13 @@ module _ (n : ℕ) (b : List ℕ) (P R : ℕ) (s : Sending) where
       (m : List ℕ) (k : ℕ) (o : List ℕ) → length m ≤ k
       → take (length m) (take k m ++ replicate (256 - k) 0) ++ drop (length m) o ≡ m ++ drop (length m) o
   out-eq m k o h =
-      ap (λ (l : List ℕ). take (length m) (l ++ replicate (256 - k) 0) ++ drop (length m) o) (take-all k m h) ∙ ap (λ (l : List ℕ). l ++ drop (length m) o) (take-append-seam m (replicate (256 - k) 0))
+      ap (λ (l : List ℕ). take (length m) (l ++ replicate (256 - k) 0) ++ drop (length m) o) (take-all k m h)
+      ∙ ap (λ (l : List ℕ). l ++ drop (length m) o) (take-append-seam m (replicate (256 - k) 0))
 
   sim-pub :
-      (q : List (List ℕ)) (r : Receiving) (o : List ℕ) → Inv (plain n b q P R s r)
-      → ReceiveSim (plain n b q P R s r) (Receive.publish (receiveState n R (first q) r) o (descriptor (plain n b q P R s r)) b) (Plain.receivePublish (plain n b q P R s r) o)
+      (q : List (List ℕ)) (r : Receiving) (o : List ℕ) → Inv (chan q r)
+      → ReceiveSim (chan q r) (Receive.publish (receiveState n R (first q) r) o (descriptor (chan q r)) b)
+      (Plain.receivePublish (chan q r) o)
   unfolding Receive.publishBy Plain.receivePublishBy Plain.receivePublishNumber descriptor need
   sim-pub q notReceiving o g = rw (pub-code q notReceiving o g) (record { same = refl; other = refl; good = g })
   sim-pub [] (receiving k) o g = empty-receiving k (g .receive)

@@ -21,7 +21,8 @@ use Rattle.delivery.specs.Plain.{PlainOutcome, Plain, notReceiving, notS
 use Rattle.delivery.specs.Plain
 use Rattle.delivery.proofs.Invariant.{bad, plain}
 use Rattle.delivery.proofs.Theorem.{demand3}
-use Rattle.delivery.proofs.Wholes.{receive-whole-none, receive-whole-ok, receive-whole-short, refusal, roomNumber, send-whole-ok, send-whole-refused}
+use Rattle.delivery.proofs.Wholes.{receive-whole-none, receive-whole-ok, receive-whole-short, refusal}
+use Rattle.delivery.proofs.Wholes.{roomNumber, send-whole-ok, send-whole-refused}
 
 -- the plain channel just opened, and with one message sent whole
 opened : List ℕ → Plain
@@ -41,7 +42,16 @@ module _ (b m o : List ℕ) (a : allowed (length b) ≡ true) where
   room f =
       ok 4 f ∙ ok 10 (le-leb (length m) (length b - 1 - (0 - 0)) (omega (arith, message-short m f, allowed-low (length b) a)))
 
-  sent : isMessage m ≡ true → plain-send b m ≡ record { code = 0; len = 0; out = []; next = plain (length b) (stored b (length b) 0 m) (m ∷ []) (0 + length m) 0 notSending notReceiving }
+  sent :
+      isMessage m ≡ true
+      → plain-send b m
+      ≡ record {
+        code = 0;
+        len = 0;
+        out = [];
+        next = plain (length b) (stored b (length b) 0 m) (m ∷ [])
+            (0 + length m) 0 notSending notReceiving;
+      }
   unfolding plain-send opened
   sent f = send-whole-ok (length b) b [] 0 0 notReceiving m (room f)
 
@@ -49,9 +59,21 @@ module _ (b m o : List ℕ) (a : allowed (length b) ≡ true) where
   unfolding plain-send opened roomNumber
   not-sent f = send-whole-refused (length b) b [] 0 0 notReceiving m 4 (bad _ f) refl
 
-  came-back : isMessage m ≡ true → leb 256 (length o) ≡ true → plain-receive b m o ≡ record { code = 0; len = length m; out = m ++ drop (length m) o; next = plain (length b) (stored b (length b) 0 m) [] (0 + length m) (0 + length m) notSending notReceiving }
+  came-back :
+      isMessage m ≡ true → leb 256 (length o) ≡ true
+      → plain-receive b m o
+      ≡ record {
+        code = 0;
+        len = length m;
+        out = m ++ drop (length m) o;
+        next = plain (length b) (stored b (length b) 0 m) []
+            (0 + length m) (0 + length m) notSending notReceiving;
+      }
   unfolding plain-receive
-  came-back f l = rw (sent f) (receive-whole-ok (length b) (stored b (length b) 0 m) (0 + length m) 0 notSending o l m [] (omega (arith, message-long m f)))
+  came-back f l =
+      rw (sent f)
+      (receive-whole-ok (length b) (stored b (length b) 0 m) (0 + length m) 0 notSending o l m []
+      (omega (arith, message-long m f)))
 
   short : leb 256 (length o) ≡ false → plain-receive b m o ≡ refusal 5 o (plain-send b m .next)
   unfolding plain-receive opened
@@ -66,7 +88,9 @@ module _ (b m o : List ℕ) (a : allowed (length b) ≡ true) where
 
   module _ (d : List ℕ) (e : length d ≡ 16) where
     -- what is seen of both calls, by demand 3
-    both : seen (firstSend d b m) ∷ seen (firstReceive d b m o) ∷ [] ≡ plainSeen (plain-send b m) ∷ plainSeen (plain-receive b m o) ∷ []
+    both :
+        seen (firstSend d b m) ∷ seen (firstReceive d b m o) ∷ []
+        ≡ plainSeen (plain-send b m) ∷ plainSeen (plain-receive b m o) ∷ []
     unfolding run plainRun plain-send plain-receive opened
     both = demand3 d b e a (sendWhole m ∷ receiveWhole o ∷ []) .as-plain
 

@@ -24,9 +24,12 @@ use Rattle.ring.proofs.Chains.{ok}
 use Rattle.message.proofs.Tests.{cases}
 use Rattle.channel.proofs.Fits.{busy-active-send, busy-idle, idle-active-send, idle-idle}
 use Rattle.runs.proofs.Ring.{apart, window-append, window-set}
-use Rattle.delivery.specs.Plain.{PlainOutcome, Plain, Receiving, Sending, descriptor, first, notReceiving, notSending, receiving, sending}
+use Rattle.delivery.specs.Plain.{PlainOutcome, Plain, Receiving, Sending, descriptor}
+use Rattle.delivery.specs.Plain.{first, notReceiving, notSending, receiving, sending}
 use Rattle.delivery.specs.Plain
-use Rattle.delivery.proofs.Invariant.{AllMessages, Inv, InvReceive, bad, below-is, empty-receiving, first-needs-ok, look-needs-send, n-low, own-send, plain, receiveState, receiverOf, sendState, senderOf, used-eq}
+use Rattle.delivery.proofs.Invariant.{AllMessages, Inv, InvReceive, bad, below-is, empty-receiving}
+use Rattle.delivery.proofs.Invariant.{first-needs-ok, look-needs-send, n-low, own-send, plain, receiveState}
+use Rattle.delivery.proofs.Invariant.{receiverOf, sendState, senderOf, used-eq}
 use Rattle.delivery.proofs.Queue.{flat, flat-snoc}
 
 abbrev pub asSender : PlainOutcome → Outcome
@@ -39,27 +42,37 @@ pub record SendSim (p : Plain) (a : Outcome) (x : PlainOutcome) : Type 0 where
   pub good : Inv (x .next)
 
 module _ (n : ℕ) (b : List ℕ) (q : List (List ℕ)) (P R : ℕ) (r : Receiving) where
+  -- the plain channel, by its sender
+  abbrev chan : Sending → Plain
+  chan s = plain n b q P R s r
+
   -- ---- look
 
-  fits-idle : Inv (plain n b q P R notSending r) → idle (length b) (sendState n P notSending) ≡ true
+  fits-idle : Inv (chan notSending) → idle (length b) (sendState n P notSending) ≡ true
   fits-idle g = rw (g .size) (idle-idle n (P % n) (own-send _ g))
 
-  fits-not : (k : ℕ) (m : List ℕ) → Inv (plain n b q P R (sending k m) r) → idle (length b) (sendState n P (sending k m)) ≡ false
+  fits-not : (k : ℕ) (m : List ℕ) → Inv (chan (sending k m)) → idle (length b) (sendState n P (sending k m)) ≡ false
   fits-not k m g = rw (g .size) (busy-idle n (P % n) (own-send _ g) (length m) k _ (omega (arith, message-long m (g .send .is-message))))
 
-  free-eq : (s : Sending) (g : Inv (plain n b q P R s r)) → free (length b) (head (descriptor (plain n b q P R s r))) (tail (descriptor (plain n b q P R s r))) ≡ n - 1 - (P - R)
+  free-eq :
+      (s : Sending) (g : Inv (chan s))
+      → free (length b) (head (descriptor (chan s))) (tail (descriptor (chan s))) ≡ n - 1 - (P - R)
   unfolding free
   free-eq s g = rw (used-eq _ g, g .size) (omega (arith, g .count))
 
   look-code :
-      (s : Sending) (m : List ℕ) → Inv (plain n b q P R s r)
-      → Send.lookNumber (sendState n P s) m (descriptor (plain n b q P R s r)) b ≡ Plain.sendLookNumber (plain n b q P R s r) m
+      (s : Sending) (m : List ℕ) → Inv (chan s)
+      → Send.lookNumber (sendState n P s) m (descriptor (chan s)) b ≡ Plain.sendLookNumber (chan s) m
   unfolding sendDecision sendLookNeeds isMessage Plain.sendLookNumber
   look-code notSending m g =
-      first-needs-ok _ g _ _ ∙ ok 3 (fits-idle g) ∙ ap (need (isMessage m) 4) (look-needs-send _ g _ ∙ ap (λ (x : ℕ). need (leb (length m) x) 10 0) (free-eq notSending g))
+      first-needs-ok _ g _ _ ∙ ok 3 (fits-idle g)
+      ∙ ap (need (isMessage m) 4)
+      (look-needs-send _ g _ ∙ ap (λ (x : ℕ). need (leb (length m) x) 10 0) (free-eq notSending g))
   look-code (sending k m₀) m g = first-needs-ok _ g _ _ ∙ bad _ (fits-not k m₀ g)
 
-  sim-look : (s : Sending) (m : List ℕ) → Inv (plain n b q P R s r) → SendSim (plain n b q P R s r) (Send.look (sendState n P s) m (descriptor (plain n b q P R s r)) b) (Plain.sendLook (plain n b q P R s r) m)
+  sim-look :
+      (s : Sending) (m : List ℕ) → Inv (chan s)
+      → SendSim (chan s) (Send.look (sendState n P s) m (descriptor (chan s)) b) (Plain.sendLook (chan s) m)
   unfolding Send.lookBy marked Plain.sendLookBy Plain.sendLookNumber descriptor need window
   sim-look notSending m g =
       rw (look-code notSending m g)
@@ -81,7 +94,7 @@ module _ (n : ℕ) (b : List ℕ) (q : List (List ℕ)) (P R : ℕ) (r : Receivi
                   record {
                     is-message = f;
                     up-to = omega arith;
-                    fits = omega (arith, leb-true (length m) (n - 1 - (P - R)) l, g .count, n-low (plain n b q P R notSending r) g);
+                    fits = omega (arith, leb-true (length m) (n - 1 - (P - R)) l, g .count, n-low (chan notSending) g);
                     done = refl;
                   };
               receive = g .receive;
@@ -93,7 +106,7 @@ module _ (n : ℕ) (b : List ℕ) (q : List (List ℕ)) (P R : ℕ) (r : Receivi
 
   -- ---- move
 
-  fits-active : (k : ℕ) (m : List ℕ) → Inv (plain n b q P R (sending k m) r) → activeSend (length b) (sendState n P (sending k m)) ≡ true
+  fits-active : (k : ℕ) (m : List ℕ) → Inv (chan (sending k m)) → activeSend (length b) (sendState n P (sending k m)) ≡ true
   fits-active k m g =
       let f : isMessage m ≡ true = g .send .is-message in
       let l : 2 ≤ length m = message-long m f in
@@ -101,32 +114,38 @@ module _ (n : ℕ) (b : List ℕ) (q : List (List ℕ)) (P R : ℕ) (r : Receivi
       let e₀ : getD (m ++ z) 0 0 ≡ getD m 0 0 = List·getD-append m z 0 0 (omega arith) in
       let e₁ : getD (m ++ z) 1 0 ≡ getD m 1 0 = List·getD-append m z 0 1 (omega arith) in
       rw (g .size)
-      (busy-active-send n (P % n) (own-send _ g) (length m) k (m ++ z) l (message-short m f) (g .send .up-to) (message-length m f ∙ ap totalLength (sym e₀)) (rw (e₀, e₁) (message-formed m f)))
+      (busy-active-send n (P % n) (own-send _ g) (length m) k (m ++ z) l (message-short m f) (g .send .up-to)
+      (message-length m f ∙ ap totalLength (sym e₀)) (rw (e₀, e₁) (message-formed m f)))
 
-  fits-not-active : Inv (plain n b q P R notSending r) → activeSend (length b) (sendState n P notSending) ≡ false
+  fits-not-active : Inv (chan notSending) → activeSend (length b) (sendState n P notSending) ≡ false
   fits-not-active g = rw (g .size) (idle-active-send n (P % n) (own-send _ g))
 
-  move-code : (s : Sending) → Inv (plain n b q P R s r) → Send.moveNumber (sendState n P s) (descriptor (plain n b q P R s r)) b ≡ Plain.sendMoveNumber (plain n b q P R s r)
+  move-code : (s : Sending) → Inv (chan s) → Send.moveNumber (sendState n P s) (descriptor (chan s)) b ≡ Plain.sendMoveNumber (chan s)
   unfolding Send.moveNumber Plain.sendMoveNumber
   move-code notSending g = first-needs-ok _ g _ _ ∙ bad _ (fits-not-active g)
   move-code (sending k m) g =
       first-needs-ok _ g _ _ ∙ ok 3 (fits-active k m g) ∙ ap (λ (t : Bool). need t 12 0) (below-is k (length m) (g .send .up-to))
 
   -- the store, and what it leaves: `v` for the dword stored
-  module _ (k : ℕ) (m : List ℕ) (g : Inv (plain n b q P R (sending k m) r)) (h : k < length m) where
+  module _ (k : ℕ) (m : List ℕ) (g : Inv (chan (sending k m))) (h : k < length m) where
     store-eq : set b ((P % n + k) % length b) (getD (m ++ replicate (256 - length m) 0) k 0) ≡ set b ((P + k) % n) (getD m k 0)
     store-eq = rw (g .size, mod-add-mod, List·getD-append m (replicate (256 - length m) 0) 0 k h)
 
     store-held : window (set b ((P + k) % n) (getD m k 0)) n R (length (flat q)) ≡ flat q
     store-held =
-        window-set b n R (length (flat q)) ((P + k) % n) (getD m k 0) (λ t lo hi. apart n t (P + k) (omega (arith, g .count)) (omega (arith, g .count, g .send .fits))) ∙ g .in-buffer
+        window-set b n R (length (flat q)) ((P + k) % n) (getD m k 0)
+        (λ t lo hi. apart n t (P + k) (omega (arith, g .count)) (omega (arith, g .count, g .send .fits)))
+        ∙ g .in-buffer
 
     store-done : window (set b ((P + k) % n) (getD m k 0)) n P (k + 1) ≡ take (k + 1) m
     unfolding window
     store-done =
         let c : List ℕ = set b ((P + k) % n) (getD m k 0) in
-        let o : (P + k) % n < length b = rw (g .size) (mod-lt (P + k) (omega (arith, n-low (plain n b q P R (sending k m) r) g))) in
-        let w : window c n P k ≡ take k m = window-set b n P k ((P + k) % n) (getD m k 0) (λ t lo hi. apart n t (P + k) (omega arith) (omega (arith, g .send .fits))) ∙ g .send .done in
+        let o : (P + k) % n < length b = rw (g .size) (mod-lt (P + k) (omega (arith, n-low (chan (sending k m)) g))) in
+        let w : window c n P k ≡ take k m =
+        window-set b n P k ((P + k) % n) (getD m k 0)
+        (λ t lo hi. apart n t (P + k) (omega arith) (omega (arith, g .send .fits)))
+        ∙ g .send .done in
         let v : getD c ((P + k) % n) 0 ≡ getD m k 0 = getD-set-same b ((P + k) % n) (getD m k 0) 0 o in
         window-append c n P k 1 ∙ (λ i. w i ++ (v i ∷ [])) ∙ sym (take-suc m k 0 h) ∙ ap (λ (x : ℕ). take x m) (sym (add-one k))
 
@@ -143,7 +162,9 @@ module _ (n : ℕ) (b : List ℕ) (q : List (List ℕ)) (P R : ℕ) (r : Receivi
           receive = g .receive;
         }
 
-  sim-move : (s : Sending) → Inv (plain n b q P R s r) → SendSim (plain n b q P R s r) (Send.move (sendState n P s) (descriptor (plain n b q P R s r)) b) (Plain.sendMove (plain n b q P R s r))
+  sim-move :
+      (s : Sending) → Inv (chan s)
+      → SendSim (chan s) (Send.move (sendState n P s) (descriptor (chan s)) b) (Plain.sendMove (chan s))
   unfolding Send.moveBy Plain.sendMoveBy Plain.sendMoveNumber Plain.sendMoved descriptor need
   sim-move notSending g = rw (move-code notSending g) (record { same = refl; other = refl; good = g })
   sim-move (sending k m) g =
@@ -157,7 +178,9 @@ module _ (n : ℕ) (b : List ℕ) (q : List (List ℕ)) (P R : ℕ) (r : Receivi
 
   -- ---- publish
 
-  pub-code : (s : Sending) → Inv (plain n b q P R s r) → Send.publishNumber (sendState n P s) (descriptor (plain n b q P R s r)) b ≡ Plain.sendPublishNumber (plain n b q P R s r)
+  pub-code :
+      (s : Sending) → Inv (chan s)
+      → Send.publishNumber (sendState n P s) (descriptor (chan s)) b ≡ Plain.sendPublishNumber (chan s)
   unfolding Send.publishNumber Plain.sendPublishNumber
   pub-code notSending g = first-needs-ok _ g _ _ ∙ bad _ (fits-not-active g)
   pub-code (sending k m) g = first-needs-ok _ g _ _ ∙ ok 3 (fits-active k m g)
@@ -171,12 +194,14 @@ module _ (n : ℕ) (b : List ℕ) (q : List (List ℕ)) (P R : ℕ) (r : Receivi
   snoc-r [] m (receiving k) c = empty-receiving k c
   snoc-r (y ∷ u) m (receiving k) c = record { is-message = c .is-message; start = c .start; up-to = c .up-to }
 
-  snoc-other : (u : List (List ℕ)) (m : List ℕ) (x : Receiving) → InvReceive u x → receiveState n R (first (u ++ (m ∷ []))) x ≡ receiveState n R (first u) x
+  snoc-other :
+      (u : List (List ℕ)) (m : List ℕ) (x : Receiving) → InvReceive u x
+      → receiveState n R (first (u ++ (m ∷ []))) x ≡ receiveState n R (first u) x
   snoc-other u m notReceiving c = refl
   snoc-other [] m (receiving k) c = empty-receiving k c
   snoc-other (y ∷ u) m (receiving k) c = refl
 
-  module _ (k : ℕ) (m : List ℕ) (g : Inv (plain n b q P R (sending k m) r)) (h : length m ≤ k) where
+  module _ (k : ℕ) (m : List ℕ) (g : Inv (chan (sending k m))) (h : length m ≤ k) where
     pub-own : (P % n + length m) % length b ≡ (P + length m) % n
     pub-own = rw (g .size, mod-add-mod)
 
@@ -187,7 +212,8 @@ module _ (n : ℕ) (b : List ℕ) (q : List (List ℕ)) (P R : ℕ) (r : Receivi
     pub-held =
         let e : k ≡ length m = omega (arith, g .send .up-to) in
         let d : window b n P (length m) ≡ take (length m) m = rw e at (g .send .done) in
-        let w : window b n (R + length (flat q)) (length m) ≡ m = ap (λ (x : ℕ). window b n x (length m)) (sym (g .count)) ∙ d ∙ take-all (length m) m (omega arith) in
+        let w : window b n (R + length (flat q)) (length m) ≡ m =
+        ap (λ (x : ℕ). window b n x (length m)) (sym (g .count)) ∙ d ∙ take-all (length m) m (omega arith) in
         rw (pub-size, flat-snoc) (window-append b n R (length (flat q)) (length m) ∙ (λ i. g .in-buffer i ++ w i))
 
     pub-good : Inv (plain n b (q ++ (m ∷ [])) (P + length m) R notSending r)
@@ -203,7 +229,9 @@ module _ (n : ℕ) (b : List ℕ) (q : List (List ℕ)) (P R : ℕ) (r : Receivi
           receive = snoc-r q m r (g .receive);
         }
 
-  sim-pub : (s : Sending) → Inv (plain n b q P R s r) → SendSim (plain n b q P R s r) (Send.publish (sendState n P s) (descriptor (plain n b q P R s r)) b) (Plain.sendPublish (plain n b q P R s r))
+  sim-pub :
+      (s : Sending) → Inv (chan s)
+      → SendSim (chan s) (Send.publish (sendState n P s) (descriptor (chan s)) b) (Plain.sendPublish (chan s))
   unfolding Send.publishBy Plain.sendPublishBy Plain.sendPublishNumber Plain.sendPublished descriptor need
   sim-pub notSending g = rw (pub-code notSending g) (record { same = refl; other = refl; good = g })
   sim-pub (sending k m) g =
@@ -233,10 +261,13 @@ unfolding moves Plain.sendMoves
 moves-sim zero x g = record { same = refl; other = refl; good = g }
 moves-sim (suc k) x g =
     let h : SendSim (x .next) _ (Plain.sendMove (x .next)) = move-sim (x .next) g in
-    let i : SendSim (Plain.sendMove (x .next) .next) _ (Plain.sendMoves k (Plain.sendMove (x .next))) = moves-sim k (Plain.sendMove (x .next)) (h .good) in
+    let y : PlainOutcome = Plain.sendMove (x .next) in
+    let i : SendSim (y .next) _ (Plain.sendMoves k y) = moves-sim k y (h .good) in
     record { same = ap (moves Send.move k) (h .same) ∙ i .same; other = i .other ∙ h .other; good = i .good }
 
-whole-from : (p : Plain) (l : ℕ) (a : Outcome) (x : PlainOutcome) → SendSim p a x → SendSim p (Send.afterLook l a) (Plain.sendAfterLook l x)
+whole-from :
+    (p : Plain) (l : ℕ) (a : Outcome) (x : PlainOutcome) → SendSim p a x
+    → SendSim p (Send.afterLook l a) (Plain.sendAfterLook l x)
 unfolding Send.afterLook Plain.sendAfterLook
 whole-from p l a x f =
     let w : SendSim (x .next) (moves Send.move l (asSender x)) (Plain.sendMoves l x) = moves-sim l x (f .good) in
@@ -247,5 +278,7 @@ whole-from p l a x f =
     (λ e. rw e (record { same = ap Send.publishAfter (w .same) ∙ v .same; other = v .other ∙ w .other ∙ f .other; good = v .good }))
     (λ e. rw e (record { same = refl; other = f .other; good = f .good })))
 
-pub whole-sim : (p : Plain) → Inv p → (m : List ℕ) → SendSim p (Send.whole (senderOf p) m (descriptor p) (p .buf)) (Plain.sendWhole p m)
+pub whole-sim :
+    (p : Plain) → Inv p → (m : List ℕ)
+    → SendSim p (Send.whole (senderOf p) m (descriptor p) (p .buf)) (Plain.sendWhole p m)
 whole-sim p g m = whole-from p (length m) _ _ (look-sim p g m)

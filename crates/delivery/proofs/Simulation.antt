@@ -13,8 +13,10 @@ use Rattle.channel.specs.Outcome.{Outcome}
 use Rattle.ring.specs.Ring.{allowed}
 use Rattle.runs.specs.Buffer.{window}
 use Rattle.ring.proofs.Chains.{allowed-low}
-use Rattle.channel.specs.Operations.{Op, receiveLook, receiveMove, receivePublish, receiveWhole, sendLook, sendMove, sendPublish, sendWhole, theReceiver, theSender}
-use Rattle.delivery.specs.Operations.{Channel, after, begun, end, withNext, outcome, plainOutcome, plainEnd, plainRun, plainSeen, run, seen}
+use Rattle.channel.specs.Operations.{Op, receiveLook, receiveMove, receivePublish, receiveWhole, sendLook}
+use Rattle.channel.specs.Operations.{sendMove, sendPublish, sendWhole, theReceiver, theSender}
+use Rattle.delivery.specs.Operations.{Channel, after, begun, end, withNext, outcome}
+use Rattle.delivery.specs.Operations.{plainOutcome, plainEnd, plainRun, plainSeen, run, seen}
 use Rattle.delivery.specs.Plain.{PlainOutcome, Plain, descriptor, fresh}
 use Rattle.delivery.proofs.Invariant.{Inv, channelOf}
 use Rattle.delivery.proofs.Queue.{flat}

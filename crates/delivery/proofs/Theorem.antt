@@ -20,10 +20,13 @@ use Rattle.channel.specs.Steps.{moves, nextPlace}
 use Rattle.channel.specs.Send
 use Rattle.message.proofs.Tests.{cases}
 use Rattle.runs.proofs.Ring.{apart, window-mod}
-use Rattle.delivery.specs.Demand.{Call, Demand3, Serial, StoresAt, Unreleased, answers, cut, ended, endedBy, held, midway, result, unread, wholes}
+use Rattle.delivery.specs.Demand.{Call, Demand3, Serial, StoresAt, Unreleased, answers, cut}
+use Rattle.delivery.specs.Demand.{ended, endedBy, held, midway, result, unread, wholes}
 use Rattle.delivery.specs.Demand.{messagesPublished, publishedBy, messagesReceived, receivedBy}
-use Rattle.channel.specs.Operations.{Op, receiveLook, receiveMove, receivePublish, receiveWhole, sendLook, sendMove, sendPublish, sendWhole}
-use Rattle.delivery.specs.Operations.{Channel, Seen, after, end, plainOutcome, plainEnd, plainRun, plainSeen, run}
+use Rattle.channel.specs.Operations.{Op, receiveLook, receiveMove, receivePublish, receiveWhole}
+use Rattle.channel.specs.Operations.{sendLook, sendMove, sendPublish, sendWhole}
+use Rattle.delivery.specs.Operations.{Channel, Seen, after, end, outcome, run}
+use Rattle.delivery.specs.Operations.{plainOutcome, plainEnd, plainRun, plainSeen}
 use Rattle.delivery.specs.Plain.{PlainOutcome, Plain, Receiving, Sending, descriptor, fresh, notSending, sending}
 use Rattle.delivery.specs.Plain
 use Rattle.delivery.proofs.Facts.{facts}
@@ -64,7 +67,8 @@ cut-flat zero ((x ∷ m) ∷ q) a h = absurd (omega arith)
 cut-flat (suc f) ((x ∷ m) ∷ q) a h =
     let e : length (x ∷ m) ≡ totalLength x = message-length (x ∷ m) (a .0) in
     let l : length (flat q) ≤ f = omega (arith, length-append m (flat q)) in
-    λ i. take-at (x ∷ m) (flat q) (totalLength x) e i ∷ (ap (cut f) (drop-at (x ∷ m) (flat q) (totalLength x) e) ∙ cut-flat f q (a .1) l) i
+    λ i. take-at (x ∷ m) (flat q) (totalLength x) e i
+    ∷ (ap (cut f) (drop-at (x ∷ m) (flat q) (totalLength x) e) ∙ cut-flat f q (a .1) l) i
 
 unread-queue : (p : Plain) → Inv p → unread (descriptor p) (p .buf) ≡ p .queue
 unfolding unread descriptor
@@ -92,13 +96,18 @@ pub record RunWhole (p : Plain) (z : List ℕ) (y : Plain) (cs : List Call) : Ty
   pub to : plainEnd (serialOf p z) (wholes cs) ≡ serialOf y z′
   pub gave : map result (plainRun (serialOf p z) (wholes cs)) ≡ answers cs
 
-chain : (p : Plain) (z : List ℕ) (x : PlainOutcome) (cs : List Call) (y : Plain) (ds : List Call) (f : RanWhole p z x cs) → RunWhole (x .next) (f .z′) y ds → RunWhole p z y (cs ++ ds)
+chain :
+    (p : Plain) (z : List ℕ) (x : PlainOutcome) (cs : List Call) (y : Plain) (ds : List Call) (f : RanWhole p z x cs)
+    → RunWhole (x .next) (f .z′) y ds
+    → RunWhole p z y (cs ++ ds)
 chain p z x cs y ds f r =
     let e : wholes (cs ++ ds) ≡ wholes cs ++ wholes ds = map-append _ cs ds in
     record {
       z′ = r .z′;
       lin = r .lin;
-      to = ap (plainEnd (serialOf p z)) e ∙ pend-append (wholes cs) (wholes ds) (serialOf p z) ∙ ap (λ (u : Plain). plainEnd u (wholes ds)) (f .to) ∙ r .to;
+      to =
+          ap (plainEnd (serialOf p z)) e ∙ pend-append (wholes cs) (wholes ds) (serialOf p z)
+          ∙ ap (λ (u : Plain). plainEnd u (wholes ds)) (f .to) ∙ r .to;
       gave =
           ap (λ (l : List Op). map result (plainRun (serialOf p z) l)) e
           ∙ ap (map result) (prun-append (wholes cs) (wholes ds) (serialOf p z))
@@ -115,18 +124,32 @@ module _ (any : ℕ → List ℕ) (any-len : (i : ℕ) → length (any i) ≡ 25
   serial-run [] p g c h z l = record { z′ = z; lin = l; to = refl; gave = refl }
   serial-run (o ∷ os) p g c h z l =
       let f : StepFacts p o (plainOutcome p o) = facts p g o in
-      let r : RanWhole p z (plainOutcome p o) (endedBy (any (length os)) c o (plainSeen (plainOutcome p o))) = f .ran c h (any (length os)) (any-len (length os)) z l in
-      chain p z (plainOutcome p o) _ _ _ r (serial-run os (plainOutcome p o .next) (step-sim p g o .good) (held c o (plainSeen (plainOutcome p o))) (f .holds c h) (r .z′) (r .lin))
+      let x : PlainOutcome = plainOutcome p o in
+      let a : Seen = plainSeen x in
+      let e : List ℕ = any (length os) in
+      let r : RanWhole p z x (endedBy e c o a) = f .ran c h e (any-len (length os)) z l in
+      chain p z x _ _ _ r
+      (serial-run os (x .next) (step-sim p g o .good) (held c o a) (f .holds c h) (r .z′) (r .lin))
 
 -- ---- stored
 
 module _ (n : ℕ) (b : List ℕ) (q : List (List ℕ)) (P R : ℕ) (r : Receiving) (j : ℕ) where
+  -- the plain channel, by its sender
+  abbrev chan : Sending → Plain
+  chan s = plain n b q P R s r
+
   -- place (P + k) mod N, where L dwords fit and k is below L, is not one that is held
-  clear : (s : Sending) → Inv (plain n b q P R s r) → (k l : ℕ) → k < l → length (flat q) + l < n → Unreleased (plain n b q P R s r) j → j ≡ (P % n + k) % n → ⊥
+  clear :
+      (s : Sending) → Inv (chan s) → (k l : ℕ) → k < l → length (flat q) + l < n → Unreleased (chan s) j
+      → j ≡ (P % n + k) % n
+      → ⊥
   clear s g k l h f w e =
       apart n (w .i) (P + k) (omega arith) (omega (arith, g .count)) (sym (w .at) ∙ e ∙ mod-add-mod P n k)
 
-  move-safe : (s : Sending) → Inv (plain n b q P R s r) → Plain.sendMoveNumber (plain n b q P R s r) ≡ 0 → Unreleased (plain n b q P R s r) j → j ≡ nextPlace (sendState n P s) b → ⊥
+  move-safe :
+      (s : Sending) → Inv (chan s) → Plain.sendMoveNumber (chan s) ≡ 0 → Unreleased (chan s) j
+      → j ≡ nextPlace (sendState n P s) b
+      → ⊥
   unfolding Plain.sendMoveNumber need
   move-safe notSending g e w f = omega arith
   move-safe (sending k m) g e w f =
@@ -136,25 +159,31 @@ module _ (n : ℕ) (b : List ℕ) (q : List (List ℕ)) (P R : ℕ) (r : Receivi
       let d : k ≢ length m = eqb-false k (length m) t in
       clear (sending k m) g k (length m) (omega (arith, g .send .up-to)) (g .send .fits) w (rw (g .size) at f))
 
-  -- midway through a whole send
+  -- where a whole send stores its dword k, midway through it
+  abbrev midPlace : Sending → List ℕ → ℕ → ℕ
+  midPlace s m k = let x = midway (channelOf (chan s)) m k in nextPlace (x .next) (x .buf)
+
   midway-place :
-      (m : List ℕ) → Inv (plain n b q P R notSending r) → isMessage m ≡ true → leb (length m) (n - 1 - (P - R)) ≡ true → (k : ℕ) → k < length m
-      → nextPlace (midway (channelOf (plain n b q P R notSending r)) m k .next) (midway (channelOf (plain n b q P R notSending r)) m k .buf) ≡ (P % n + k) % n
+      (m : List ℕ) → Inv (chan notSending) → isMessage m ≡ true → leb (length m) (n - 1 - (P - R)) ≡ true
+      → (k : ℕ) → k < length m
+      → midPlace notSending m k ≡ (P % n + k) % n
   unfolding Plain.sendLookBy Plain.sendLookNumber need
   midway-place m g t u k h =
-      let p : Plain = plain n b q P R notSending r in
-      let l : SendSim p (Send.look (sendState n P notSending) m (descriptor p) b) (Plain.sendLook p m) = SendSteps.look-sim p g m in
-      let w : SendSim (Plain.sendLook p m .next) (moves Send.move k (asSender (Plain.sendLook p m))) (Plain.sendMoves k (Plain.sendLook p m)) = SendSteps.moves-sim k (Plain.sendLook p m) (l .good) in
-      let y : Plain.sendMoves k (Plain.sendLook p m) .next ≡ plain n (stored b n P (take k m)) q P R (sending k m) r = send-moves n b q P R r m k (Plain.sendLook p m) (omega arith) (rw (t, u)) in
-      let z : length (stored b n P (take k m)) ≡ n = sym (ap (λ (v : Plain). length (v .buf)) y) ∙ w .good .size ∙ ap (λ (v : Plain). v .n) y in
+      let p : Plain = chan notSending in
+      let x : PlainOutcome = Plain.sendLook p m in
+      let l : SendSim p (Send.look (senderOf p) m (descriptor p) b) x = SendSteps.look-sim p g m in
+      let w : SendSim (x .next) (moves Send.move k (asSender x)) (Plain.sendMoves k x) = SendSteps.moves-sim k x (l .good) in
+      let c : List ℕ = stored b n P (take k m) in
+      let y : Plain.sendMoves k x .next ≡ plain n c q P R (sending k m) r = send-moves n b q P R r m k x (omega arith) (rw (t, u)) in
+      let z : length c ≡ n = sym (ap (λ (v : Plain). length (v .buf)) y) ∙ w .good .size ∙ ap (λ (v : Plain). v .n) y in
       ap (λ (a : Outcome). nextPlace (a .next) (a .buf)) (ap (moves Send.move k) (l .same) ∙ w .same)
       ∙ ap (λ (v : Plain). nextPlace (senderOf v) (v .buf)) y
       ∙ ap (λ (x : ℕ). (P % n + k) % x) z
 
   whole-safe :
-      (s : Sending) (m : List ℕ) → Inv (plain n b q P R s r) → Plain.sendLook (plain n b q P R s r) m .code ≡ 0
-      → Unreleased (plain n b q P R s r) j → (k : ℕ) → k < length m
-      → j ≡ nextPlace (midway (channelOf (plain n b q P R s r)) m k .next) (midway (channelOf (plain n b q P R s r)) m k .buf) → ⊥
+      (s : Sending) (m : List ℕ) → Inv (chan s) → Plain.sendLook (chan s) m .code ≡ 0
+      → Unreleased (chan s) j → (k : ℕ) → k < length m
+      → j ≡ midPlace s m k → ⊥
   unfolding Plain.sendLookBy Plain.sendLookNumber need
   whole-safe notSending m g e w k h f =
       cases (isMessage m)
@@ -167,13 +196,13 @@ module _ (n : ℕ) (b : List ℕ) (q : List (List ℕ)) (P R : ℕ) (r : Receivi
   whole-safe (sending k₀ m₀) m g e w k h f = let z : _≡_ {A = ℕ} 3 0 = e in omega arith
 
   -- the place of a store in the plain channel's words
-  move-place : (s : Sending) → Inv (plain n b q P R s r) → j ≡ nextPlace (sendState n P s) b → j ≡ (P + sendState n P s .moved) % n
+  move-place : (s : Sending) → Inv (chan s) → j ≡ nextPlace (sendState n P s) b → j ≡ (P + sendState n P s .moved) % n
   move-place notSending g f = rw (g .size) at f ∙ mod-add-mod P n 0
   move-place (sending k m) g f = rw (g .size) at f ∙ mod-add-mod P n k
 
   whole-place :
-      (s : Sending) (m : List ℕ) → Inv (plain n b q P R s r) → Plain.sendLook (plain n b q P R s r) m .code ≡ 0 → (k : ℕ) → k < length m
-      → j ≡ nextPlace (midway (channelOf (plain n b q P R s r)) m k .next) (midway (channelOf (plain n b q P R s r)) m k .buf)
+      (s : Sending) (m : List ℕ) → Inv (chan s) → Plain.sendLook (chan s) m .code ≡ 0 → (k : ℕ) → k < length m
+      → j ≡ midPlace s m k
       → j ≡ (P + k) % n
   unfolding Plain.sendLookBy Plain.sendLookNumber need
   whole-place notSending m g e k h f =
@@ -184,13 +213,17 @@ module _ (n : ℕ) (b : List ℕ) (q : List (List ℕ)) (P R : ℕ) (r : Receivi
       (λ t. let z : _≡_ {A = ℕ} 4 0 = rw t at e in absurd (omega arith))
   whole-place (sending k₀ m₀) m g e k h f = let z : _≡_ {A = ℕ} 3 0 = e in absurd (omega arith)
 
+-- the plain channel accepts what the channel accepts
+accepts : (p : Plain) → Inv p → (o : Op) → outcome (channelOf p) o .code ≡ 0 → plainOutcome p o .code ≡ 0
+accepts p g o z = sym (ap (λ (x : Seen). x .code) (step-sim p g o .same)) ∙ z
+
 store-place : (p : Plain) → Inv p → (o : Op) (k j : ℕ) → StoresAt (channelOf p) o k j → j ≡ (p .P + k) % p .n
 store-place p g (sendLook m) k j s = absurd s
 store-place p g sendMove k j s = rw (s .1) (move-place (p .n) (p .buf) (p .queue) (p .P) (p .R) (p .receive) j (p .send) g (s .2))
 store-place p g sendPublish k j s = absurd s
 store-place p g (sendWhole m) k j s =
-    let c = sym (ap (λ (x : Seen). x .code) (step-sim p g (sendLook m) .same)) ∙ s .0 in
-    whole-place (p .n) (p .buf) (p .queue) (p .P) (p .R) (p .receive) j (p .send) m g c k (s .1) (s .2)
+    whole-place (p .n) (p .buf) (p .queue) (p .P) (p .R) (p .receive) j (p .send) m g
+    (accepts p g (sendLook m) (s .0)) k (s .1) (s .2)
 store-place p g receiveLook k j s = absurd s
 store-place p g receiveMove k j s = absurd s
 store-place p g (receivePublish o) k j s = absurd s
@@ -200,10 +233,12 @@ no-store : (p : Plain) → Inv p → (o : Op) (j : ℕ) → Unreleased p j → (
 unfolding Plain.sendMoveBy
 no-store p g (sendLook m) j w k s = s
 no-store p g sendMove j w k s =
-    move-safe (p .n) (p .buf) (p .queue) (p .P) (p .R) (p .receive) j (p .send) g (sym (ap (λ (x : Seen). x .code) (step-sim p g sendMove .same)) ∙ s .0) w (s .2)
+    move-safe (p .n) (p .buf) (p .queue) (p .P) (p .R) (p .receive) j (p .send) g
+    (accepts p g sendMove (s .0)) w (s .2)
 no-store p g sendPublish j w k s = s
 no-store p g (sendWhole m) j w k s =
-    whole-safe (p .n) (p .buf) (p .queue) (p .P) (p .R) (p .receive) j (p .send) m g (sym (ap (λ (x : Seen). x .code) (step-sim p g (sendLook m) .same)) ∙ s .0) w k (s .1) (s .2)
+    whole-safe (p .n) (p .buf) (p .queue) (p .P) (p .R) (p .receive) j (p .send) m g
+    (accepts p g (sendLook m) (s .0)) w k (s .1) (s .2)
 no-store p g receiveLook j w k s = s
 no-store p g receiveMove j w k s = s
 no-store p g (receivePublish o) j w k s = s
@@ -226,11 +261,14 @@ module _ (b : List ℕ) (a : allowed (length b) ≡ true) (list : List Op) where
   g₀ = fresh-good b a
 
   messages₀ :
-      messagesReceived list (run c₀ list) ++ unread (end c₀ list .desc) (end c₀ list .buf) ≡ messagesPublished [] list (run c₀ list)
+      messagesReceived list (run c₀ list) ++ unread (end c₀ list .desc) (end c₀ list .buf)
+      ≡ messagesPublished [] list (run c₀ list)
   messages₀ =
       let p : Plain = plainEnd p₀ list in
       rw (run-sim p₀ g₀ list, end-sim p₀ g₀ list)
-      (ap (λ (l : List (List ℕ)). messagesReceived list (plainRun p₀ list) ++ l) (unread-queue p (end-good p₀ g₀ list)) ∙ sym (flow-run list p₀ g₀ [] tt))
+      (ap (λ (l : List (List ℕ)). messagesReceived list (plainRun p₀ list) ++ l)
+      (unread-queue p (end-good p₀ g₀ list))
+      ∙ sym (flow-run list p₀ g₀ [] tt))
 
   stores₀ :
       (pre : List Op) (o : Op) (j : ℕ) → Unreleased (plainEnd p₀ pre) j
@@ -258,7 +296,9 @@ module _ (b : List ℕ) (a : allowed (length b) ≡ true) (list : List Op) where
       (record {
         same-answers = ap (map result) (run-sim p₀ g₀ (wholes cs)) ∙ r .gave;
         same-desc = ap (λ (y : Channel). y .desc) (end-sim p₀ g₀ (wholes cs)) ∙ ap descriptor (r .to);
-        same-buf = ap (λ (y : Channel). y .buf) (end-sim p₀ g₀ (wholes cs)) ∙ ap (λ (y : Plain). y .buf) (r .to) ∙ sym (rw s at (r .lin));
+        same-buf =
+            ap (λ (y : Channel). y .buf) (end-sim p₀ g₀ (wholes cs)) ∙ ap (λ (y : Plain). y .buf) (r .to)
+            ∙ sym (rw s at (r .lin));
       })
 
 pub demand3 : Demand3

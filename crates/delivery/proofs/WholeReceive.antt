@@ -16,49 +16,71 @@ use Rattle.delivery.specs.Plain
 use Rattle.delivery.proofs.Invariant.{Inv, bad, first-needs-ok, plain, receiveState, receiverOf}
 use Rattle.delivery.proofs.ReceiveSteps.{ReceiveSim, asReceiver, fits-idle, fits-not, look-sim, move-sim, pub-sim}
 
-pub moves-sim : (k : ℕ) (x : PlainOutcome) → Inv (x .next) → ReceiveSim (x .next) (moves Receive.move k (asReceiver x)) (Plain.receiveMoves k x)
+pub moves-sim :
+    (k : ℕ) (x : PlainOutcome) → Inv (x .next)
+    → ReceiveSim (x .next) (moves Receive.move k (asReceiver x)) (Plain.receiveMoves k x)
 unfolding moves Plain.receiveMoves
 moves-sim zero x g = record { same = refl; other = refl; good = g }
 moves-sim (suc k) x g =
     let h : ReceiveSim (x .next) _ (Plain.receiveMove (x .next)) = move-sim (x .next) g in
-    let i : ReceiveSim (Plain.receiveMove (x .next) .next) _ (Plain.receiveMoves k (Plain.receiveMove (x .next))) = moves-sim k (Plain.receiveMove (x .next)) (h .good) in
+    let y : PlainOutcome = Plain.receiveMove (x .next) in
+    let i : ReceiveSim (y .next) _ (Plain.receiveMoves k y) = moves-sim k y (h .good) in
     record { same = ap (moves Receive.move k) (h .same) ∙ i .same; other = i .other ∙ h .other; good = i .good }
 
-look-len : (p : Plain) → eqb (Plain.receiveLook p .code) 0 ≡ true → receiverOf (Plain.receiveLook p .next) .len ≡ length (first (p .queue))
+look-len :
+    (p : Plain) → eqb (Plain.receiveLook p .code) 0 ≡ true
+    → receiverOf (Plain.receiveLook p .next) .len ≡ length (first (p .queue))
 unfolding Plain.receiveLookBy
 look-len p e = rw e
 
 whole-from :
-    (p : Plain) (l : ℕ) (o : List ℕ) (a : Outcome) (x : PlainOutcome) → ReceiveSim p a x → (eqb (x .code) 0 ≡ true → receiverOf (x .next) .len ≡ l)
+    (p : Plain) (l : ℕ) (o : List ℕ) (a : Outcome) (x : PlainOutcome) → ReceiveSim p a x
+    → (eqb (x .code) 0 ≡ true → receiverOf (x .next) .len ≡ l)
     → ReceiveSim p (Receive.afterLook o a) (Plain.receiveAfterLook l o x)
 unfolding Receive.afterLook Plain.receiveAfterLook
 whole-from p l o a x f e =
-    let w : ReceiveSim (x .next) (moves Receive.move (l - 1) (asReceiver x)) (Plain.receiveMoves (l - 1) x) = moves-sim (l - 1) x (f .good) in
+    let w : ReceiveSim (x .next) _ (Plain.receiveMoves (l - 1) x) = moves-sim (l - 1) x (f .good) in
     let y : Plain = Plain.receiveMoves (l - 1) x .next in
     let v : ReceiveSim y (Receive.publish (receiverOf y) o (descriptor y) (y .buf)) (Plain.receivePublish y o) = pub-sim y (w .good) o in
     rw (f .same)
     (cases (eqb (x .code) 0)
     (λ t. rw t
     (record {
-      same = ap (λ (i : ℕ). Receive.publishAfter o (moves Receive.move (i - 1) (asReceiver x))) (e t) ∙ ap (Receive.publishAfter o) (w .same) ∙ v .same;
+      same =
+          ap (λ (i : ℕ). Receive.publishAfter o (moves Receive.move (i - 1) (asReceiver x))) (e t)
+          ∙ ap (Receive.publishAfter o) (w .same)
+          ∙ v .same;
       other = v .other ∙ w .other ∙ f .other;
       good = v .good;
     }))
     (λ t. rw t (record { same = refl; other = f .other; good = f .good })))
 
-whole-code : (p : Plain) → Inv p → (o : List ℕ) → Receive.wholeNumber (receiverOf p) o (descriptor p) (p .buf) ≡ Plain.receiveWholeNumber p o
+whole-code :
+    (p : Plain) → Inv p → (o : List ℕ)
+    → Receive.wholeNumber (receiverOf p) o (descriptor p) (p .buf) ≡ Plain.receiveWholeNumber p o
 unfolding Receive.wholeNumber Plain.receiveWholeNumber
 whole-code p g o = go (p .receive) g
   where
-    go : (r : Receiving) → Inv (plain (p .n) (p .buf) (p .queue) (p .P) (p .R) (p .send) r)
-        → Receive.wholeNumber (receiveState (p .n) (p .R) (first (p .queue)) r) o (descriptor (plain (p .n) (p .buf) (p .queue) (p .P) (p .R) (p .send) r)) (p .buf) ≡ Plain.receiveWholeNumber (plain (p .n) (p .buf) (p .queue) (p .P) (p .R) (p .send) r) o
+    -- the plain channel with another receiver
+    chan : Receiving → Plain
+    chan r = plain (p .n) (p .buf) (p .queue) (p .P) (p .R) (p .send) r
+
+    go :
+        (r : Receiving) → Inv (chan r)
+        → Receive.wholeNumber (receiverOf (chan r)) o (descriptor (chan r)) (p .buf) ≡ Plain.receiveWholeNumber (chan r) o
     go notReceiving h = first-needs-ok _ h _ _ ∙ ok 3 (fits-idle (p .n) (p .buf) (p .P) (p .R) (p .send) (p .queue) h)
     go (receiving k) h = first-needs-ok _ h _ _ ∙ bad _ (fits-not (p .n) (p .buf) (p .P) (p .R) (p .send) (p .queue) k h)
 
-whole-by : (p : Plain) → Inv p → (o : List ℕ) (c : ℕ) → ReceiveSim p (Receive.wholeBy c (receiverOf p) o (descriptor p) (p .buf)) (Plain.receiveWholeBy c p o)
+whole-by :
+    (p : Plain) → Inv p → (o : List ℕ) (c : ℕ)
+    → ReceiveSim p (Receive.wholeBy c (receiverOf p) o (descriptor p) (p .buf)) (Plain.receiveWholeBy c p o)
 unfolding Receive.wholeBy Plain.receiveWholeBy
 whole-by p g o c =
-    cases (eqb c 0) (λ e. rw e (whole-from p (length (first (p .queue))) o _ _ (look-sim p g) (look-len p))) (λ e. rw e (record { same = refl; other = refl; good = g }))
+    cases (eqb c 0)
+    (λ e. rw e (whole-from p (length (first (p .queue))) o _ _ (look-sim p g) (look-len p)))
+    (λ e. rw e (record { same = refl; other = refl; good = g }))
 
-pub whole-sim : (p : Plain) → Inv p → (o : List ℕ) → ReceiveSim p (Receive.whole (receiverOf p) o (descriptor p) (p .buf)) (Plain.receiveWhole p o)
+pub whole-sim :
+    (p : Plain) → Inv p → (o : List ℕ)
+    → ReceiveSim p (Receive.whole (receiverOf p) o (descriptor p) (p .buf)) (Plain.receiveWhole p o)
 whole-sim p g o = rw (whole-code p g o) (whole-by p g o (Plain.receiveWholeNumber p o))

@@ -33,13 +33,19 @@ unfoldable pub roomNumber : ℕ → ℕ → ℕ → List ℕ → ℕ
 roomNumber n P R m = need (isMessage m) 4 (need (leb (length m) (n - 1 - (P - R))) 10 0)
 
 module _ (n : ℕ) (b : List ℕ) (q : List (List ℕ)) (P R : ℕ) where
+  -- the plain channel, by its sides
+  abbrev sides : Sending → Receiving → Plain
+  sides s r = plain n b q P R s r
+
   module _ (r : Receiving) (m : List ℕ) where
     -- k dwords moved
     abbrev moved : ℕ → Plain
     moved k = plain n (stored b n P (take k m)) q P R (sending k m) r
 
     -- and j more
-    pub send-moves-eq : (j k : ℕ) (x : PlainOutcome) → k + j ≤ length m → x .next ≡ moved k → Plain.sendMoves j x .next ≡ moved (k + j)
+    pub send-moves-eq :
+        (j k : ℕ) (x : PlainOutcome) → k + j ≤ length m → x .next ≡ moved k
+        → Plain.sendMoves j x .next ≡ moved (k + j)
     unfolding Plain.sendMoves Plain.sendMoveBy Plain.sendMoveNumber Plain.sendMoved need
     send-moves-eq zero k x h f =
         let e : k ≡ k + 0 = omega arith in
@@ -50,7 +56,9 @@ module _ (n : ℕ) (b : List ℕ) (q : List (List ℕ)) (P R : ℕ) where
         let e : suc k + j ≡ k + suc j = omega arith in
         send-moves-eq j (suc k) (Plain.sendMove (x .next)) (omega arith) t ∙ ap moved e
 
-    pub send-moves : (j : ℕ) (x : PlainOutcome) → j ≤ length m → x .next ≡ plain n b q P R (sending 0 m) r → Plain.sendMoves j x .next ≡ moved j
+    pub send-moves :
+        (j : ℕ) (x : PlainOutcome) → j ≤ length m → x .next ≡ sides (sending 0 m) r
+        → Plain.sendMoves j x .next ≡ moved j
     unfolding stored
     send-moves j x h f =
         let e : 0 + j ≡ j = omega arith in
@@ -58,52 +66,65 @@ module _ (n : ℕ) (b : List ℕ) (q : List (List ℕ)) (P R : ℕ) where
 
     pub send-whole-ok :
         roomNumber n P R m ≡ 0
-        → Plain.sendWhole (plain n b q P R notSending r) m ≡ done (plain n (stored b n P m) (q ++ (m ∷ [])) (P + length m) R notSending r)
-    unfolding Plain.sendAfterLook Plain.sendLookBy Plain.sendLookNumber roomNumber Plain.sendPublishBy Plain.sendPublishNumber Plain.sendPublished need stored
+        → Plain.sendWhole (sides notSending r) m ≡ done (plain n (stored b n P m) (q ++ (m ∷ [])) (P + length m) R notSending r)
+    unfolding Plain.sendAfterLook Plain.sendLookBy Plain.sendLookNumber roomNumber Plain.sendPublishBy
+        Plain.sendPublishNumber Plain.sendPublished need stored
     send-whole-ok e =
-        let x = done (plain n b q P R (sending 0 m) r) in
+        let x = done (sides (sending 0 m) r) in
         let all : List ℕ → Plain = λ l. plain n (stored b n P l) q P R (sending (length m) m) r in
-        let t : Plain.sendMoves (length m) x .next ≡ all m = send-moves (length m) x (omega arith) refl ∙ ap all (take-all (length m) m (omega arith)) in
+        let t : Plain.sendMoves (length m) x .next ≡ all m =
+        send-moves (length m) x (omega arith) refl ∙ ap all (take-all (length m) m (omega arith)) in
         rw e (rw (t, le-leb (length m) (length m) (omega arith)))
 
-    pub send-whole-refused : (c : ℕ) → roomNumber n P R m ≡ c → eqb c 0 ≡ false → Plain.sendWhole (plain n b q P R notSending r) m ≡ refusal c [] (plain n b q P R notSending r)
+    pub send-whole-refused :
+        (c : ℕ) → roomNumber n P R m ≡ c → eqb c 0 ≡ false
+        → Plain.sendWhole (sides notSending r) m ≡ refusal c [] (sides notSending r)
     unfolding Plain.sendAfterLook Plain.sendLookBy Plain.sendLookNumber roomNumber
     send-whole-refused c e f = rw (e, f)
 
-    pub send-whole-midcall : (k : ℕ) (m₀ : List ℕ) → Plain.sendWhole (plain n b q P R (sending k m₀) r) m ≡ refusal 3 [] (plain n b q P R (sending k m₀) r)
+    pub send-whole-midcall :
+        (k : ℕ) (m₀ : List ℕ) → Plain.sendWhole (sides (sending k m₀) r) m ≡ refusal 3 [] (sides (sending k m₀) r)
     unfolding Plain.sendAfterLook Plain.sendLookBy Plain.sendLookNumber
     send-whole-midcall k m₀ = refl
 
   module _ (s : Sending) (o : List ℕ) where
     receive-moves :
-        (j k : ℕ) (x : PlainOutcome) → k + j ≡ length (first q) → x .next ≡ plain n b q P R s (receiving k)
+        (j k : ℕ) (x : PlainOutcome) → k + j ≡ length (first q) → x .next ≡ sides s (receiving k)
         → Plain.receiveMoves j x .next ≡ plain n b q P R s (receiving (length (first q)))
     unfolding Plain.receiveMoves Plain.receiveMoveBy Plain.receiveMoveNumber need
     receive-moves zero k x e f =
         let k′ : k ≡ length (first q) = omega arith in
-        f ∙ (λ i. plain n b q P R s (receiving (k′ i)))
+        f ∙ (λ i. sides s (receiving (k′ i)))
     receive-moves (suc j) k x e f =
-        let t : Plain.receiveMove (x .next) .next ≡ plain n b q P R s (receiving (suc k)) = rw (f, ne-eqb k (length (first q)) (λ w. omega arith), add-one k) in
+        let t : Plain.receiveMove (x .next) .next ≡ sides s (receiving (suc k)) =
+        rw (f, ne-eqb k (length (first q)) (λ w. omega arith), add-one k) in
         receive-moves j (suc k) (Plain.receiveMove (x .next)) (omega arith) t
 
-    pub receive-whole-short : leb 256 (length o) ≡ false → Plain.receiveWhole (plain n b q P R s notReceiving) o ≡ refusal 5 o (plain n b q P R s notReceiving)
+    pub receive-whole-short :
+        leb 256 (length o) ≡ false → Plain.receiveWhole (sides s notReceiving) o ≡ refusal 5 o (sides s notReceiving)
     unfolding Plain.receiveWholeBy Plain.receiveWholeNumber need
     receive-whole-short e = rw e
 
-    pub receive-whole-midcall : (k : ℕ) → Plain.receiveWhole (plain n b q P R s (receiving k)) o ≡ refusal 3 o (plain n b q P R s (receiving k))
+    pub receive-whole-midcall : (k : ℕ) → Plain.receiveWhole (sides s (receiving k)) o ≡ refusal 3 o (sides s (receiving k))
     unfolding Plain.receiveWholeBy Plain.receiveWholeNumber
     receive-whole-midcall k = refl
 
 module _ (n : ℕ) (b : List ℕ) (P R : ℕ) (s : Sending) (o : List ℕ) (l : leb 256 (length o) ≡ true) where
-  pub receive-whole-none : Plain.receiveWhole (plain n b [] P R s notReceiving) o ≡ refusal 11 o (plain n b [] P R s notReceiving)
+  -- the plain channel, by its queue and receiver
+  abbrev holding : List (List ℕ) → Receiving → Plain
+  holding q r = plain n b q P R s r
+
+  pub receive-whole-none : Plain.receiveWhole (holding [] notReceiving) o ≡ refusal 11 o (holding [] notReceiving)
   unfolding Plain.receiveWholeBy Plain.receiveWholeNumber Plain.receiveLookBy Plain.receiveLookNumber Plain.receiveAfterLook need
   receive-whole-none = rw l
 
   pub receive-whole-ok :
       (m : List ℕ) (q : List (List ℕ)) → 1 ≤ length m
-      → Plain.receiveWhole (plain n b (m ∷ q) P R s notReceiving) o ≡ handed m o (plain n b q P (R + length m) s notReceiving)
-  unfolding Plain.receiveWholeBy Plain.receiveWholeNumber Plain.receiveLookBy Plain.receiveLookNumber Plain.receiveAfterLook Plain.receivePublishBy Plain.receivePublishNumber need
+      → Plain.receiveWhole (holding (m ∷ q) notReceiving) o ≡ handed m o (plain n b q P (R + length m) s notReceiving)
+  unfolding Plain.receiveWholeBy Plain.receiveWholeNumber Plain.receiveLookBy Plain.receiveLookNumber
+      Plain.receiveAfterLook Plain.receivePublishBy Plain.receivePublishNumber need
   receive-whole-ok m q h =
-      let x = done (plain n b (m ∷ q) P R s (receiving 1)) in
-      let t : Plain.receiveMoves (length m - 1) x .next ≡ plain n b (m ∷ q) P R s (receiving (length m)) = receive-moves n b (m ∷ q) P R s o (length m - 1) 1 x (omega arith) refl in
+      let x = done (holding (m ∷ q) (receiving 1)) in
+      let t : Plain.receiveMoves (length m - 1) x .next ≡ holding (m ∷ q) (receiving (length m)) =
+      receive-moves n b (m ∷ q) P R s o (length m - 1) 1 x (omega arith) refl in
       rw l (rw (t, le-leb (length m) (length m) (omega arith)))

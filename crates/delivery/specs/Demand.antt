@@ -1,5 +1,6 @@
--- The customer's demand 3: after every list of looks, moves, publishes and whole calls of one sender and one receiver, in any order, refused ones included,
--- the channel has done what document 01's plain channel does. One record, a field for each sentence of the demand.
+-- The customer's demand 3: after every list of looks, moves, publishes and whole calls of one sender and one receiver,
+-- in any order, refused ones included, the channel has done what document 01's plain channel does. One record, a field
+-- for each sentence of the demand.
 use Prim.Native.Nat.{ℕ, zero, suc, _+_, _%_, _≤_, _<_}
 use mathlib.Core.Path.{_≡_}
 use mathlib.Core.Bool.{true, _||_, cond}
@@ -14,7 +15,8 @@ use Rattle.channel.specs.Opening.{opening}
 use Rattle.channel.specs.Steps.{moves, nextPlace}
 use Rattle.channel.specs.Send
 use Rattle.delivery.specs.Plain.{Plain, notSending, notReceiving, fresh, descriptor}
-use Rattle.channel.specs.Operations.{Op, sendLook, sendMove, sendPublish, sendWhole, receiveLook, receiveMove, receivePublish, receiveWhole}
+use Rattle.channel.specs.Operations.{Op, sendLook, sendMove, sendPublish, sendWhole}
+use Rattle.channel.specs.Operations.{receiveLook, receiveMove, receivePublish, receiveWhole}
 use Rattle.delivery.specs.Operations.{Seen, Channel, begun, outcome, after, run, end, plainRun, plainEnd}
 
 -- ---- messages published, received and unread
@@ -62,14 +64,15 @@ messagesReceived [] ss = []
 messagesReceived (o ∷ os) [] = []
 messagesReceived (o ∷ os) (a ∷ ss) = receivedBy o a ++ messagesReceived os ss
 
--- dwords cut into messages by their headers. At most `most` messages are cut off: that is what lets the definition end, and it leaves none out where
--- `most` is at least the number of dwords, for every message takes at least one of them
+-- dwords cut into messages by their headers. At most `most` messages are cut off: that is what lets the definition end,
+-- and it leaves none out where `most` is at least the number of dwords, for every message takes at least one of them
 unfoldable pub cut : ℕ → List ℕ → List (List ℕ)
 cut zero dwords = []
 cut (suc most) [] = []
 cut (suc most) (h ∷ t) = take (totalLength h) (h ∷ t) ∷ cut most (drop (totalLength h) (h ∷ t))
 
--- 'Unread are the used dwords from HEAD on, cut by their headers.' There are fewer used dwords than N, so N messages are as many as they can be
+-- 'Unread are the used dwords from HEAD on, cut by their headers.' There are fewer used dwords than N, so N messages
+-- are as many as they can be
 unfoldable pub unread : List ℕ → List ℕ → List (List ℕ)
 unread d b = cut (length b) (window b (length b) (head d) (used (length b) (head d) (tail d)))
 
@@ -86,8 +89,8 @@ pub record Unreleased (p : Plain) (j : ℕ) : Type 0 where
 abbrev pub midway : Channel → List ℕ → ℕ → Outcome
 midway x m k = moves Send.move k (Send.look (x .sender) m (x .desc) (x .buf))
 
--- place j is where the operation stores dword k of its message, by the channel's own words: a move the next dword; a whole send, where its look is
--- accepted, dword k after k others
+-- place j is where the operation stores dword k of its message, by the channel's own words: a move the next dword; a
+-- whole send, where its look is accepted, dword k after k others
 abbrev pub StoresAt : Channel → Op → ℕ → ℕ → Type 0
 StoresAt x (sendLook m) k j = ⊥
 StoresAt x sendMove k j = (outcome x sendMove .code ≡ 0) × (k ≡ x .sender .moved) × (j ≡ nextPlace (x .sender) (x .buf))
@@ -118,9 +121,10 @@ pub record Call : Type 0 where
 abbrev pub call : Op → Result → List Call
 call o r = record { op = o; answer = r } ∷ []
 
--- 'A call ends with a publish answered 0, a whole call not answered 3, or a look refused by any number but 3; that answer is the call's, with L 0
--- where a receive's look is refused. Run whole, a stepped send takes its look's message, and a stepped receive its publish's output or, where
--- it ended at its look, any 256 dwords, which stay. Other refusals end no call.'
+-- 'A call ends with a publish answered 0, a whole call not answered 3, or a look refused by any number but 3; that
+-- answer is the call's, with L 0 where a receive's look is refused. Run whole, a stepped send takes its look's message,
+-- and a stepped receive its publish's output or, where it ended at its look, any 256 dwords, which stay. Other refusals
+-- end no call.'
 -- `e` are those 256 dwords; c is the message of the send that is mid-call.
 abbrev pub endedBy : List ℕ → List ℕ → Op → Seen → List Call
 endedBy e c (sendLook m) a = cond (eqb (a .code) 0 || eqb (a .code) 3) [] (call (sendWhole m) (result a))
@@ -133,7 +137,8 @@ endedBy e c receiveMove a = []
 endedBy e c (receivePublish o) a = cond (eqb (a .code) 0) (call (receiveWhole o) (result a)) []
 endedBy e c (receiveWhole o) a = cond (eqb (a .code) 3) [] (call (receiveWhole o) (result a))
 
--- the calls that ended, in the order of their ends. `any` gives 256 dwords for each place in the list, so that they may differ from call to call
+-- the calls that ended, in the order of their ends. `any` gives 256 dwords for each place in the list, so that they may
+-- differ from call to call
 unfoldable pub ended : (ℕ → List ℕ) → List ℕ → List Op → List Seen → List Call
 ended any c [] ss = []
 ended any c (o ∷ os) [] = []
@@ -160,10 +165,12 @@ pub record Demand (d b : List ℕ) (list : List Op) : Type 0 where
   pub messages :
       messagesReceived list (run (begun d b) list) ++ unread (end (begun d b) list .desc) (end (begun d b) list .buf)
       ≡ messagesPublished [] list (run (begun d b) list)
-  -- 'no store landed' on a dword published and not yet released: each operation o of the list, after those before it, stores at no such place
-  -- and changes the value of no such dword. (What is unreleased just before o is that of the list cut off there: the demand holds of every prefix.)
+  -- 'no store landed' on a dword published and not yet released: each operation o of the list, after those before it,
+  -- stores at no such place and changes the value of no such dword. (What is unreleased just before o is that of the
+  -- list cut off there: the demand holds of every prefix.)
   pub stores :
-      (before later : List Op) (o : Op) → list ≡ before ++ o ∷ later → (j : ℕ) → Unreleased (plainEnd (fresh (length b) b) before) j
+      (before later : List Op) (o : Op) → list ≡ before ++ o ∷ later → (j : ℕ)
+      → Unreleased (plainEnd (fresh (length b) b) before) j
       → ((k : ℕ) → StoresAt (end (begun d b) before) o k j → ⊥)
       × (getD (after (end (begun d b) before) o .buf) j 0 ≡ getD (end (begun d b) before .buf) j 0)
   -- 'the place (P + k) mod N of a send's store, in whole calls too'
@@ -175,8 +182,8 @@ pub record Demand (d b : List ℕ) (list : List Op) : Type 0 where
   pub as-plain : run (begun d b) list ≡ plainRun (fresh (length b) b) list
   pub plain-desc : end (begun d b) list .desc ≡ descriptor (plainEnd (fresh (length b) b) list)
   pub plain-buf : end (begun d b) list .buf ≡ plainEnd (fresh (length b) b) list .buf
-  -- whenever neither side is mid-call, the calls that ended, run whole in the order of their ends, give the same answers, outputs, descriptor and
-  -- buffer
+  -- whenever neither side is mid-call, the calls that ended, run whole in the order of their ends, give the same
+  -- answers, outputs, descriptor and buffer
   pub serial :
       plainEnd (fresh (length b) b) list .send ≡ notSending → plainEnd (fresh (length b) b) list .receive ≡ notReceiving
       → (any : ℕ → List ℕ) → ((i : ℕ) → length (any i) ≡ 256)

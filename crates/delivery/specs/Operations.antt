@@ -4,7 +4,8 @@ use mathlib.Core.List.{List, [], _∷_}
 use Rattle.channel.specs.State.{State}
 use Rattle.channel.specs.Outcome.{Outcome}
 use Rattle.channel.specs.Opening.{opening}
-use Rattle.channel.specs.Operations.{Op, sendLook, sendMove, sendPublish, sendWhole, receiveLook, receiveMove, receivePublish, receiveWhole, Side, theSender, theReceiver, sideOf, gives}
+use Rattle.channel.specs.Operations.{Op, sendLook, sendMove, sendPublish, sendWhole, receiveLook, receiveMove}
+use Rattle.channel.specs.Operations.{receivePublish, receiveWhole, Side, theSender, theReceiver, sideOf, gives}
 use Rattle.delivery.specs.Plain
 use Rattle.delivery.specs.Plain.{Plain, PlainOutcome, descriptor}
 

@@ -16,7 +16,8 @@ pub data Receiving : Type 0 where
   notReceiving : Receiving
   receiving : ℕ → Receiving
 
--- 'It keeps the buffer, a queue of messages (empty at first), counts P and R of dwords published and released (0 at first)'
+-- 'It keeps the buffer, a queue of messages (empty at first), counts P and R of dwords published and released (0 at
+-- first)'
 pub record Plain : Type 0 where
   pub n : ℕ
   pub buf : List ℕ
@@ -34,8 +35,8 @@ fresh n b = record { n = n; buf = b; queue = []; P = 0; R = 0; send = notSending
 unfoldable pub descriptor : Plain → List ℕ
 descriptor p = (p .R % p .n) ∷ (p .P % p .n) ∷ replicate 14 0
 
--- what an operation gives: the number, L, the output after it, and the channel after it. 'A refusal changes nothing; the others answer 0,
--- receives L as above.'
+-- what an operation gives: the number, L, the output after it, and the channel after it. 'A refusal changes nothing;
+-- the others answer 0, receives L as above.'
 pub record PlainOutcome : Type 0 where
   pub code : ℕ
   pub len : ℕ

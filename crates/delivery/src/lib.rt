@@ -1,5 +1,6 @@
-// Demand 3, that over every list of operations the channel does what document 01's plain channel does, is stated in specs/Demand.antt and
-// proved in proofs/Theorem.antt. Here it is the contract of a function, and a self-test follows from it.
+// Demand 3, that over every list of operations the channel does what document 01's plain channel does, is stated in
+// specs/Demand.antt and proved in proofs/Theorem.antt. Here it is the contract of a function, and a self-test follows
+// from it.
 ghost use mathlib.Core.Path.{_≡_};
 ghost use Rattle.delivery.specs.Demand.{Demand3};
 ghost use Rattle.delivery.specs.HalfWhole.{HalfWhole};
@@ -23,11 +24,16 @@ pub struct Looped {
     pub len: usize,
 }
 
-// Opens a channel, sends a message whole and receives it whole. On a channel that opens, the message comes back dword for dword at the front
-// of the output.
+// Opens a channel, sends a message whole and receives it whole. On a channel that opens, the message comes back dword
+// for dword at the front of the output.
 pub fn loopback(desc: &mut [u32], buf: &mut [u32], msg: &[u32], out: &mut [u32]) -> Looped
-    ensures { λ r. ⌜ looped r (now (desc .exit)) (now (buf .exit)) (now (out .exit)) ≡ loop (now (desc .entry)) (now (buf .entry)) (now (msg .entry)) (now (out .entry)) ⌝ }
-    ensures { λ r. ⌜ (r .opened ≡ 0 → ComesBack (now (msg .entry)) (now (out .entry)) (looped r (now (desc .exit)) (now (buf .exit)) (now (out .exit)))) ⌝ }
+    ensures { λ r.
+        ⌜ looped r (now (desc .exit)) (now (buf .exit)) (now (out .exit))
+        ≡ loop (now (desc .entry)) (now (buf .entry)) (now (msg .entry)) (now (out .entry)) ⌝ }
+    ensures { λ r.
+        ⌜ (r .opened ≡ 0
+        → ComesBack (now (msg .entry)) (now (out .entry))
+        (looped r (now (desc .exit)) (now (buf .exit)) (now (out .exit)))) ⌝ }
 {
     let start = channel::open_channel(desc, &buf[..]);
     let sender = start.sender;

@@ -1,4 +1,5 @@
--- What the worked examples start from: messages, descriptors, buffers, images and directories that have the paper's figures.
+-- What the worked examples start from: messages, descriptors, buffers, images and directories that have the paper's
+-- figures.
 use Prim.Native.Nat.{ℕ, zero, suc, _+_, _-_, _/_, _%_, _^_}
 use mathlib.Core.List.{List, [], _∷_, _++_}
 use lib.ListN.{length, replicate}

@@ -1,6 +1,6 @@
--- The worked examples of document 01, 'Both sides of each line': one table, and the statement that the definitions give each of its rows.
--- Every line marked P is here, each row under the paper's words, and what a request of document 02 changes. A comment that starts with `Ours` marks rows that no
--- paper has.
+-- The worked examples of document 01, 'Both sides of each line': one table, and the statement that the definitions give
+-- each of its rows. Every line marked P is here, each row under the paper's words, and what a request of document 02
+-- changes. A comment that starts with `Ours` marks rows that no paper has.
 use Prim.Native.Nat.{ℕ, _-_}
 use mathlib.Core.Bool.{Bool, true, false}
 use mathlib.Core.List.{List, [], _∷_, _++_, map}
@@ -25,7 +25,8 @@ use Rattle.firmware.specs.Version.{Reading, hucReading, manifestReading}
 use Rattle.firmware.specs.declared.css.Component.{Component}
 use Rattle.firmware.specs.declared.css.Component.the-variants.{Ucode, Rsa, Modulus, Exponent}
 use Rattle.examples.specs.Example.{Example, _is_, Each}
-use Rattle.examples.specs.Inputs.{message, countUp, dwords, twoDwords, descriptorWith, untouched, buffer, bufferOf, bufferWith, image, entryBytes, directoryOf, directory}
+use Rattle.examples.specs.Inputs.{message, countUp, dwords, twoDwords, descriptorWith, untouched, buffer}
+use Rattle.examples.specs.Inputs.{bufferOf, bufferWith, image, entryBytes, directoryOf, directory}
 
 -- ---- how a row says an answer
 
@@ -145,11 +146,12 @@ table =
     ∷ (unpackAnswer (0x12340001 ∷ 0xF0000000 ∷ []) is unpacked (message Guc 0x1234 1 (Success 0)))
     ∷ (unpackAnswer (0x12340001 ∷ 0xE0AB0010 ∷ []) is unpacked (message Guc 0x1234 1 (Failure 0x0AB 0x10)))
     ∷ (packAnswer (message Host 0x1234 1 (Request 0xFFF 0)) is packed 0x12340001 0x0FFF0000)
-    -- Ours: document 02's fast request. Origin 0 and type 2 are the first hex digit, 2; data 0x0AB the three after it, action 0x4601 the
-    -- last four.
+    -- Ours: document 02's fast request. Origin 0 and type 2 are the first hex digit, 2; data 0x0AB the three after it,
+    -- action 0x4601 the last four.
     ∷ (packAnswer (message Host 0x1234 1 (FastRequest 0x0AB 0x4601)) is packed 0x12340001 0x20AB4601)
     ∷ (unpackAnswer (twoDwords 0x20AB4601) is unpacked (message Host 0x1234 1 (FastRequest 0x0AB 0x4601)))
-    -- Ours: the same digits with type 4; and a word of each type that has none above. With origin 1 the first digit is 8 more than the type.
+    -- Ours: the same digits with type 4; and a word of each type that has none above. With origin 1 the first digit is
+    -- 8 more than the type.
     ∷ (unpackAnswer (twoDwords 0x40AB4601) is refusedUnpack 4)
     ∷ (packAnswer (message Guc 0x1234 1 (Event 0x001 0x1000)) is packed 0x12340001 0x90011000)
     ∷ (packAnswer (message Guc 0x1234 1 (Busy 5)) is packed 0x12340001 0xB0000005)
@@ -171,13 +173,16 @@ table =
     -- Ours: then not even 2 are accepted.
     ∷ (sendAfter full (dwords 2) is refused 10 (full .next) (full .desc) (full .buf) [])
     -- 'P N = 1,024, offsets 1,020, L = 8: stores at 1,020 to 1,023 and 0 to 3, ..'
-    ∷ (map (λ k. nextPlace (stores k .next) (stores k .buf)) (countUp 0 8) is 1020 ∷ 1021 ∷ 1022 ∷ 1023 ∷ 0 ∷ 1 ∷ 2 ∷ 3 ∷ [])
+    ∷ (map (λ k. nextPlace (stores k .next) (stores k .buf)) (countUp 0 8)
+    is 1020 ∷ 1021 ∷ 1022 ∷ 1023 ∷ 0 ∷ 1 ∷ 2 ∷ 3 ∷ [])
     ∷ (stores 8 is accepted (state 1024 1020 8 8 (dwords 8 ++ replicate 248 0)) (descriptorWith 1020 1020 0) around)
     -- '.. TAIL 4.'
     ∷ (Send.publishAfter (stores 8) is accepted (idleAt 1024 4) (descriptorWith 1020 4 0) around)
-    ∷ (Send.whole (idleAt 1024 1020) (dwords 8) (descriptorWith 1020 1020 0) buffer is accepted (idleAt 1024 4) (descriptorWith 1020 4 0) around)
-    -- T-07, '.. in at most two straight runs': the same message stored and read. Ours: 8 that end one place before the end and at it are one run, one place further
-    -- the last is the second run; the end between the judged dwords, and behind them.
+    ∷ (Send.whole (idleAt 1024 1020) (dwords 8) (descriptorWith 1020 1020 0) buffer
+    is accepted (idleAt 1024 4) (descriptorWith 1020 4 0) around)
+    -- T-07, '.. in at most two straight runs': the same message stored and read. Ours: 8 that end one place before the
+    -- end and at it are one run, one place further the last is the second run; the end between the judged dwords, and
+    -- behind them.
     ∷ (runCounts 1020 8 is (4, 4))
     ∷ (storedRuns buffer 1020 (dwords 8) is around)
     ∷ (readRuns around 1020 8 is dwords 8)
@@ -188,7 +193,8 @@ table =
     ∷ (runCounts 1023 256 is (1, 255))
     ∷ (runCounts 1022 256 is (2, 254))
     -- 'P TAIL 1,024 at N = 1,024: 7, STATUS 1.', at a send's look and at a receive's
-    ∷ (Send.look (idleAt 1024 0) (dwords 2) (descriptorWith 0 1024 0) buffer is refused 7 (idleAt 1024 0) (descriptorWith 0 1024 1) buffer [])
+    ∷ (Send.look (idleAt 1024 0) (dwords 2) (descriptorWith 0 1024 0) buffer
+    is refused 7 (idleAt 1024 0) (descriptorWith 0 1024 1) buffer [])
     ∷ (Receive.look (idleAt 1024 0) (descriptorWith 0 1024 0) buffer is refused 7 (idleAt 1024 0) (descriptorWith 0 1024 1) buffer [])
     -- 'Own tail 8, TAIL 12: 8, STATUS 4.'
     ∷ (Send.look (idleAt 1024 8) (dwords 2) (descriptorWith 0 12 0) buffer is refused 8 (idleAt 1024 8) (descriptorWith 0 12 4) buffer [])
@@ -198,26 +204,31 @@ table =
     -- 'P Header 0x00000005 with 3 used: 9, STATUS 2, HEAD stays.'
     ∷ (Receive.look (idleAt 1024 8) (descriptorWith 8 11 0) (bufferWith 0x00000005)
     is refused 9 (idleAt 1024 8) (descriptorWith 8 11 2) (bufferWith 0x00000005) [])
-    -- Ours: header 0x00000025, which is L 38, with 10 used is 9 too, where a length mask of five bits would read L 6; with 38 used it is
-    -- accepted.
+    -- Ours: header 0x00000025, which is L 38, with 10 used is 9 too, where a length mask of five bits would read L 6;
+    -- with 38 used it is accepted.
     ∷ (Receive.look (idleAt 1024 8) (descriptorWith 8 18 0) (bufferWith 0x00000025)
     is refused 9 (idleAt 1024 8) (descriptorWith 8 18 2) (bufferWith 0x00000025) [])
     ∷ (Receive.look (idleAt 1024 8) (descriptorWith 8 46 0) (bufferWith 0x00000025)
     is accepted (state 1024 8 38 1 (0x00000025 ∷ replicate 255 0)) (descriptorWith 8 46 0) (bufferWith 0x00000025))
-    -- Ours: a fast request is sent and received; with type 4 in its place it is 4 for the sender, and 13 for the receiver, whose HEAD moves.
+    -- Ours: a fast request is sent and received; with type 4 in its place it is 4 for the sender, and 13 for the
+    -- receiver, whose HEAD moves.
     ∷ (Send.whole (idleAt 1024 8) (twoDwords 0x20AB4601) (descriptorWith 8 8 0) buffer
     is accepted (idleAt 1024 10) (descriptorWith 8 10 0) (bufferOf (twoDwords 0x20AB4601)))
     ∷ (Receive.whole (idleAt 1024 8) (untouched 257) (descriptorWith 8 10 0) (bufferOf (twoDwords 0x20AB4601))
     is receives 0 2 (idleAt 1024 10) (descriptorWith 10 10 0) (bufferOf (twoDwords 0x20AB4601)) (twoDwords 0x20AB4601 ++ untouched 255))
-    ∷ (Send.whole (idleAt 1024 8) (twoDwords 0x40AB4601) (descriptorWith 8 8 0) buffer is refused 4 (idleAt 1024 8) (descriptorWith 8 8 0) buffer [])
+    ∷ (Send.whole (idleAt 1024 8) (twoDwords 0x40AB4601) (descriptorWith 8 8 0) buffer
+    is refused 4 (idleAt 1024 8) (descriptorWith 8 8 0) buffer [])
     ∷ (Receive.whole (idleAt 1024 8) (untouched 257) (descriptorWith 8 10 0) (bufferOf (twoDwords 0x40AB4601))
     is receives 13 0 (idleAt 1024 10) (descriptorWith 10 10 0) (bufferOf (twoDwords 0x40AB4601)) (untouched 257))
-    -- Ours: all the stores that are left of a message of 3 dwords, with one stored and with all of them; an idle side is refused
+    -- Ours: all the stores that are left of a message of 3 dwords, with one stored and with all of them; an idle side
+    -- is refused
     ∷ (Send.moveAll (state 1024 8 3 1 (padded (dwords 3))) (descriptorWith 8 8 0) buffer
     is accepted (state 1024 8 3 3 (padded (dwords 3))) (descriptorWith 8 8 0) (bufferOf (0xBBBBBBBB ∷ 0 ∷ 2 ∷ [])))
-    ∷ (Send.moveAll (state 1024 8 3 3 (padded (dwords 3))) (descriptorWith 8 8 0) buffer is accepted (state 1024 8 3 3 (padded (dwords 3))) (descriptorWith 8 8 0) buffer)
+    ∷ (Send.moveAll (state 1024 8 3 3 (padded (dwords 3))) (descriptorWith 8 8 0) buffer
+    is accepted (state 1024 8 3 3 (padded (dwords 3))) (descriptorWith 8 8 0) buffer)
     ∷ (Send.moveAll (idleAt 1024 8) (descriptorWith 8 8 0) buffer is refused 3 (idleAt 1024 8) (descriptorWith 8 8 0) buffer [])
-    -- Ours: all the copies that are left behind the header, of a message of 3 dwords and of one of a single dword, which has none
+    -- Ours: all the copies that are left behind the header, of a message of 3 dwords and of one of a single dword,
+    -- which has none
     ∷ (Receive.moveAll (state 1024 8 3 1 (padded (0x12340002 ∷ []))) (descriptorWith 8 11 0) (bufferOf (dwords 3))
     is accepted (state 1024 8 3 3 (padded (dwords 3))) (descriptorWith 8 11 0) (bufferOf (dwords 3)))
     ∷ (Receive.moveAll (state 1024 8 1 1 (padded (0x12340000 ∷ []))) (descriptorWith 8 9 0) (bufferWith 0x12340000)
@@ -240,12 +251,14 @@ table =
     ∷ (cpd (directory 1) is (21, emptyPart))
     -- '.. of length 0: an empty part.'
     ∷ (cpd (directory 0) is (0, (68, 68)))
-    -- T-03: 'A supplier's CPD had two `huc_fw` entries': neighbours that differ, neighbours that are alike, the first and the last of three, and all three
+    -- T-03: 'A supplier's CPD had two `huc_fw` entries': neighbours that differ, neighbours that are alike, the first
+    -- and the last of three, and all three
     ∷ (cpd (directoryOf 2 (huc 20 24 ++ huc 44 24)) is (22, emptyPart))
     ∷ (cpd (directoryOf 2 (huc 20 24 ++ huc 20 24)) is (22, emptyPart))
     ∷ (cpd (directoryOf 3 (huc 20 24 ++ man 0 ++ huc 68 24)) is (22, emptyPart))
     ∷ (cpd (directoryOf 3 (huc 20 24 ++ huc 44 24 ++ huc 68 24)) is (22, emptyPart))
-    -- T-03: 'tested after 20 and before 21': two of another name, and two whose parts lie beyond the blob of 68 bytes; a byte less is still 19
+    -- T-03: 'tested after 20 and before 21': two of another name, and two whose parts lie beyond the blob of 68 bytes;
+    -- a byte less is still 19
     ∷ (cpd (directoryOf 2 (man 0 ++ man 0)) is (20, emptyPart))
     ∷ (cpd (directoryOf 2 (huc 68 1 ++ huc 68 1)) is (22, emptyPart))
     ∷ (cpd (take 67 (directoryOf 2 (huc 20 24 ++ huc 44 24))) is (19, emptyPart))
@@ -255,7 +268,8 @@ table =
     -- T-03: 'The manifest and CSS readings inside a directory pass 22 on and promise it.'
     ∷ (manifestReading (directoryOf 2 (man 44 ++ man 44)) is noVersion 22)
     ∷ (hucReading (directoryOf 2 (huc 20 24 ++ huc 44 24)) is noVersion 22)
-    ∷ (map (λ which. hucLocated which (directoryOf 2 (huc 20 24 ++ huc 44 24)) .code) (Ucode ∷ Rsa ∷ Modulus ∷ Exponent ∷ []) is 22 ∷ 22 ∷ 22 ∷ 22 ∷ [])
+    ∷ (map (λ which. hucLocated which (directoryOf 2 (huc 20 24 ++ huc 44 24)) .code) (Ucode ∷ Rsa ∷ Modulus ∷ Exponent ∷ [])
+    is 22 ∷ 22 ∷ 22 ∷ 22 ∷ [])
     ∷ []
 
 -- THE STATEMENT: the definitions give each

@@ -1,4 +1,5 @@
--- Packing and unpacking agree in C's six numbers, since they do in `message` and the numbers say the body. Assumes nothing.
+-- Packing and unpacking agree in C's six numbers, since they do in `message` and the numbers say the body. Assumes
+-- nothing.
 use Prim.{Unit, tt}
 use Prim.Native.Nat.{ℕ, _+_, _≤_, _<_, _^_}
 use mathlib.Core.Path.{_≡_, refl, sym, ap, _∙_, subst}
@@ -25,7 +26,9 @@ use Rattle.guc.specs.BothWays.{dwords, numbers, packedAgain, BothWays}
 -- ---- unpacked, then packed
 
 -- the numbers of a body make it again, and none is left over
-body-again : (b : Body) → (bodyFor (typeOf b) (nth 0 (carried b)) (nth 1 (carried b)) ≡ some b) × (spare b (nth 1 (carried b)) ≡ true)
+body-again :
+    (b : Body)
+    → (bodyFor (typeOf b) (nth 0 (carried b)) (nth 1 (carried b)) ≡ some b) × (spare b (nth 1 (carried b)) ≡ true)
 unfolding bodyFor bodiesFrom numberFor ofType typeOf carried nth spare
 body-again (Request d a) = (refl, refl)
 body-again (Event d a) = (refl, refl)
@@ -71,7 +74,9 @@ each-carries first second =
     let one : eqb second 0 ≡ true → 0 ≡ second = λ e. sym (eqb-true second 0 e) in
     ((refl, λ e. refl), ((refl, λ e. refl), ((refl, λ e. refl), ((refl, one), ((refl, one), ((refl, λ e. refl), ((refl, one), tt)))))))
 
-picked : (t first second : ℕ) (bs : List Body) (b : Body) → Each first second bs → ofType t bs ≡ some b → (typeOf b ≡ t) × Carries first second b
+picked :
+    (t first second : ℕ) (bs : List Body) (b : Body) → Each first second bs → ofType t bs ≡ some b
+    → (typeOf b ≡ t) × Carries first second b
 unfolding Each ofType
 picked t first second [] b s e = let z : _≡_ {A = ℕ} 0 1 = cc in absurd (omega arith)
 picked t first second (x ∷ xs) b s e = go (eqb t (typeOf x)) refl e (picked t first second xs b (s .1))
@@ -90,10 +95,14 @@ module _ (origin fence num t first second header word : ℕ) where
   abbrev Told : Type 0
   Told =
       (1 ≤ num)
-      × ((rest : List ℕ) → length rest + 1 ≡ num → unpackedBy (unpackAnswer (header ∷ word ∷ rest)) ≡ numbers origin fence num t first second)
+      × ((rest : List ℕ) → length rest + 1 ≡ num
+      → unpackedBy (unpackAnswer (header ∷ word ∷ rest)) ≡ numbers origin fence num t first second)
 
   -- what such a message says when it is unpacked
-  told : (b : Body) → bodyFor t first second ≡ some b → leb origin 1 ≡ true → spare b second ≡ true → pack (made b) ≡ some (header, word) → Told
+  told :
+      (b : Body) → bodyFor t first second ≡ some b → leb origin 1 ≡ true → spare b second ≡ true
+      → pack (made b) ≡ some (header, word)
+      → Told
   unfolding Carries bodyFor unpackedBy refusing Option·elim saidBy
   told b q o s p =
       let k = picked t first second (bodiesFrom (numberFor first second)) b (each-carries first second) q in
@@ -101,7 +110,9 @@ module _ (origin fence num t first second header word : ℕ) where
       let says : saidBy (made b) ≡ numbers origin fence num t first second =
       λ i. numbers (origin-there origin (omega (arith, leb-true origin 1 o)) i) fence num (k .0 i) (k .1 .0 i) (k .1 .1 s i) in (
         agreement .packs (made b) header word (l .0) (l .1) .0 p .0,
-        λ rest n. let u : unpack (header ∷ word ∷ rest) ≡ some (made b) = agreement .there (made b) header word rest p n in rw u says,
+        λ rest n.
+            let u : unpack (header ∷ word ∷ rest) ≡ some (made b) = agreement .there (made b) header word rest p n in
+            rw u says,
       )
 
   packed : (b : Body) (x : Option (ℕ × ℕ)) → bodyFor t first second ≡ some b → leb origin 1 ≡ true → spare b second ≡ true
@@ -115,7 +126,8 @@ module _ (origin fence num t first second header word : ℕ) where
 
   fitting : (b : Body) (v : Bool) → bodyFor t first second ≡ some b → (leb origin 1 && spare b second) ≡ v
       → cond v (packedBy (packAnswer (made b))) (notPacked 14) ≡ dwords header word → Told
-  fitting b true q f e = packed b (pack (made b)) q (and-l (leb origin 1) (spare b second) f) (and-r (leb origin 1) (spare b second) f) refl e
+  fitting b true q f e =
+      packed b (pack (made b)) q (and-l (leb origin 1) (spare b second) f) (and-r (leb origin 1) (spare b second) f) refl e
   fitting b false q f e = let z : _≡_ {A = ℕ} 14 0 = ap (λ r. r .code) e in absurd (omega (arith, z))
 
   there : packing origin fence num t first second ≡ dwords header word → Told
@@ -123,7 +135,10 @@ module _ (origin fence num t first second header word : ℕ) where
   there e = go (bodyFor t first second) refl e
     where
       go : (x : Option Body) → bodyFor t first second ≡ x
-          → Option·elim x (notPacked noSuch) (λ b. cond (leb origin 1 && spare b second) (packedBy (packAnswer (made b))) (notPacked 14)) ≡ dwords header word → Told
+          → Option·elim x (notPacked noSuch)
+          (λ b. cond (leb origin 1 && spare b second) (packedBy (packAnswer (made b))) (notPacked 14))
+          ≡ dwords header word
+          → Told
       go none q f = let z : _≡_ {A = ℕ} 101 0 = ap (λ r. r .code) f in absurd (omega (arith, z))
       go (some b) q f = fitting b (leb origin 1 && spare b second) q refl f
 

@@ -1,4 +1,5 @@
--- Both ways agree for C too, which has six numbers where `message` has a decoded message: what it unpacks packs again, and what it packs unpacks again.
+-- Both ways agree for C too, which has six numbers where `message` has a decoded message: what it unpacks packs again,
+-- and what it packs unpacks again.
 use Prim.Native.Nat.{ℕ, _+_, _≤_, _<_, _^_}
 use mathlib.Core.Path.{_≡_}
 use mathlib.Core.Bool.{true}
@@ -31,4 +32,5 @@ pub record BothWays : Type 0 where
   pub there :
       (origin fence num t first second header word : ℕ) → packing origin fence num t first second ≡ dwords header word
       → (1 ≤ num)
-      × ((rest : List ℕ) → length rest + 1 ≡ num → unpackedBy (unpackAnswer (header ∷ word ∷ rest)) ≡ numbers origin fence num t first second)
+      × ((rest : List ℕ) → length rest + 1 ≡ num
+      → unpackedBy (unpackAnswer (header ∷ word ∷ rest)) ≡ numbers origin fence num t first second)

@@ -42,7 +42,8 @@ notPacked n = record { code = n; header = 0; word = 0 }
 unfoldable pub packedBy : Answer (ℕ × ℕ) → Packed
 packedBy a = Option·elim (a .value) (notPacked (a .number)) (λ dwords. record { code = 0; header = dwords .0; word = dwords .1 })
 
--- 101 first, then 14 for an origin that is not one bit and for a number but 0 in a field that the type does not have, then what packing answers
+-- 101 first, then 14 for an origin that is not one bit and for a number but 0 in a field that the type does not have,
+-- then what packing answers
 unfoldable pub packing : ℕ → ℕ → ℕ → ℕ → ℕ → ℕ → Packed
 packing origin fence num t first second =
     Option·elim (bodyFor t first second) (notPacked noSuch)

@@ -1,4 +1,5 @@
--- Firmware for C: an answer, a part as its number, start and length, a part copied out, and a version as a struct of numbers.
+-- Firmware for C: an answer, a part as its number, start and length, a part copied out, and a version as a struct of
+-- numbers.
 use Prim.Native.Nat.{ℕ}
 use mathlib.Core.Bool.{Bool, cond}
 use mathlib.Core.List.{List, _++_}
@@ -79,10 +80,14 @@ copiedBy n t part dst =
     (notCopied n t 0 dst)
 
 unfoldable pub cssCopy : ℕ → List ℕ → List ℕ → CopiedOut
-cssCopy n b dst = Option·elim (componentOf n) (notCopied noSuch 0 0 dst) (λ c. copiedBy (Css.number b) (flag (Css.truncated b)) (bytes b (Css.place c b)) dst)
+cssCopy n b dst =
+    Option·elim (componentOf n) (notCopied noSuch 0 0 dst)
+    (λ c. copiedBy (Css.number b) (flag (Css.truncated b)) (bytes b (Css.place c b)) dst)
 
 unfoldable pub hucCopy : ℕ → List ℕ → List ℕ → CopiedOut
-hucCopy n b dst = Option·elim (componentOf n) (notCopied noSuch 0 0 dst) (λ c. copiedBy (hucNumber b) (flag (hucTruncated b)) (bytes b (hucPlace c b)) dst)
+hucCopy n b dst =
+    Option·elim (componentOf n) (notCopied noSuch 0 0 dst)
+    (λ c. copiedBy (hucNumber b) (flag (hucTruncated b)) (bytes b (hucPlace c b)) dst)
 
 -- an entry's part is of no image
 unfoldable pub cpdCopy : List ℕ → List ℕ → List ℕ → CopiedOut

@@ -1,5 +1,5 @@
-// Opening, the steps and the whole calls of a channel, with each side's state in 260 words that the caller keeps. A descriptor has 16 dwords by its type, so
-// that 1 is never answered here.
+// Opening, the steps and the whole calls of a channel, with each side's state in 260 words that the caller keeps. A
+// descriptor has 16 dwords by its type, so that 1 is never answered here.
 ghost use mathlib.Core.Path.{_≡_};
 ghost use mathlib.Core.List.{[]};
 ghost use Rattle.channel.specs.Opening.{opening};
@@ -23,7 +23,9 @@ pub extern "C" fn guc_open(
     desc: &mut [u32; DESCRIPTOR_DWORDS],
     buf: &[u32],
 ) -> u32
-    ensures { λ r. ⌜ openedWords r (now (sender .exit)) (now (receiver .exit)) (now (desc .exit)) (now (buf .entry)) ≡ opening (now (desc .entry)) (now (buf .entry)) ⌝ }
+    ensures { λ r.
+        ⌜ openedWords r (now (sender .exit)) (now (receiver .exit)) (now (desc .exit)) (now (buf .entry))
+        ≡ opening (now (desc .entry)) (now (buf .entry)) ⌝ }
 {
     side::open_channel(sender, receiver, &mut desc[..], buf)
 }
@@ -35,7 +37,9 @@ pub extern "C" fn guc_send_look(
     buf: &[u32],
     msg: &[u32],
 ) -> u32
-    ensures { λ r. ⌜ inWords r 0 (now (w .exit)) (now (desc .exit)) (now (buf .entry)) [] ≡ Send.look (stateOf (now (w .entry))) (now (msg .entry)) (now (desc .entry)) (now (buf .entry)) ⌝ }
+    ensures { λ r.
+        ⌜ inWords r 0 (now (w .exit)) (now (desc .exit)) (now (buf .entry)) []
+        ≡ Send.look (stateOf (now (w .entry))) (now (msg .entry)) (now (desc .entry)) (now (buf .entry)) ⌝ }
 {
     side::send_look(w, &mut desc[..], buf, msg)
 }
@@ -46,7 +50,9 @@ pub extern "C" fn guc_send_store(
     desc: &[u32; DESCRIPTOR_DWORDS],
     buf: &mut [u32],
 ) -> u32
-    ensures { λ r. ⌜ inWords r 0 (now (w .exit)) (now (desc .entry)) (now (buf .exit)) [] ≡ Send.move (stateOf (now (w .entry))) (now (desc .entry)) (now (buf .entry)) ⌝ }
+    ensures { λ r.
+        ⌜ inWords r 0 (now (w .exit)) (now (desc .entry)) (now (buf .exit)) []
+        ≡ Send.move (stateOf (now (w .entry))) (now (desc .entry)) (now (buf .entry)) ⌝ }
 {
     side::send_store(w, &desc[..], buf)
 }
@@ -57,7 +63,9 @@ pub extern "C" fn guc_send_store_all(
     desc: &[u32; DESCRIPTOR_DWORDS],
     buf: &mut [u32],
 ) -> u32
-    ensures { λ r. ⌜ inWords r 0 (now (w .exit)) (now (desc .entry)) (now (buf .exit)) [] ≡ Send.moveAll (stateOf (now (w .entry))) (now (desc .entry)) (now (buf .entry)) ⌝ }
+    ensures { λ r.
+        ⌜ inWords r 0 (now (w .exit)) (now (desc .entry)) (now (buf .exit)) []
+        ≡ Send.moveAll (stateOf (now (w .entry))) (now (desc .entry)) (now (buf .entry)) ⌝ }
 {
     side::send_store_all(w, &desc[..], buf)
 }
@@ -68,7 +76,9 @@ pub extern "C" fn guc_send_publish(
     desc: &mut [u32; DESCRIPTOR_DWORDS],
     buf: &[u32],
 ) -> u32
-    ensures { λ r. ⌜ inWords r 0 (now (w .exit)) (now (desc .exit)) (now (buf .entry)) [] ≡ Send.publish (stateOf (now (w .entry))) (now (desc .entry)) (now (buf .entry)) ⌝ }
+    ensures { λ r.
+        ⌜ inWords r 0 (now (w .exit)) (now (desc .exit)) (now (buf .entry)) []
+        ≡ Send.publish (stateOf (now (w .entry))) (now (desc .entry)) (now (buf .entry)) ⌝ }
 {
     side::send_publish(w, &mut desc[..], buf)
 }
@@ -80,7 +90,9 @@ pub extern "C" fn guc_send(
     buf: &mut [u32],
     msg: &[u32],
 ) -> u32
-    ensures { λ r. ⌜ inWords r 0 (now (w .exit)) (now (desc .exit)) (now (buf .exit)) [] ≡ Send.whole (stateOf (now (w .entry))) (now (msg .entry)) (now (desc .entry)) (now (buf .entry)) ⌝ }
+    ensures { λ r.
+        ⌜ inWords r 0 (now (w .exit)) (now (desc .exit)) (now (buf .exit)) []
+        ≡ Send.whole (stateOf (now (w .entry))) (now (msg .entry)) (now (desc .entry)) (now (buf .entry)) ⌝ }
 {
     side::send(w, &mut desc[..], buf, msg)
 }
@@ -91,7 +103,9 @@ pub extern "C" fn guc_receive_look(
     desc: &mut [u32; DESCRIPTOR_DWORDS],
     buf: &[u32],
 ) -> u32
-    ensures { λ r. ⌜ inWords r 0 (now (w .exit)) (now (desc .exit)) (now (buf .entry)) [] ≡ Receive.look (stateOf (now (w .entry))) (now (desc .entry)) (now (buf .entry)) ⌝ }
+    ensures { λ r.
+        ⌜ inWords r 0 (now (w .exit)) (now (desc .exit)) (now (buf .entry)) []
+        ≡ Receive.look (stateOf (now (w .entry))) (now (desc .entry)) (now (buf .entry)) ⌝ }
 {
     side::receive_look(w, &mut desc[..], buf)
 }
@@ -102,7 +116,9 @@ pub extern "C" fn guc_receive_copy(
     desc: &[u32; DESCRIPTOR_DWORDS],
     buf: &[u32],
 ) -> u32
-    ensures { λ r. ⌜ inWords r 0 (now (w .exit)) (now (desc .entry)) (now (buf .entry)) [] ≡ Receive.move (stateOf (now (w .entry))) (now (desc .entry)) (now (buf .entry)) ⌝ }
+    ensures { λ r.
+        ⌜ inWords r 0 (now (w .exit)) (now (desc .entry)) (now (buf .entry)) []
+        ≡ Receive.move (stateOf (now (w .entry))) (now (desc .entry)) (now (buf .entry)) ⌝ }
 {
     side::receive_copy(w, &desc[..], buf)
 }
@@ -113,7 +129,9 @@ pub extern "C" fn guc_receive_copy_all(
     desc: &[u32; DESCRIPTOR_DWORDS],
     buf: &[u32],
 ) -> u32
-    ensures { λ r. ⌜ inWords r 0 (now (w .exit)) (now (desc .entry)) (now (buf .entry)) [] ≡ Receive.moveAll (stateOf (now (w .entry))) (now (desc .entry)) (now (buf .entry)) ⌝ }
+    ensures { λ r.
+        ⌜ inWords r 0 (now (w .exit)) (now (desc .entry)) (now (buf .entry)) []
+        ≡ Receive.moveAll (stateOf (now (w .entry))) (now (desc .entry)) (now (buf .entry)) ⌝ }
 {
     side::receive_copy_all(w, &desc[..], buf)
 }
@@ -125,7 +143,9 @@ pub extern "C" fn guc_receive_publish(
     buf: &[u32],
     out: &mut [u32],
 ) -> Received
-    ensures { λ r. ⌜ inWords (r .code) (r .len) (now (w .exit)) (now (desc .exit)) (now (buf .entry)) (now (out .exit)) ≡ Receive.publish (stateOf (now (w .entry))) (now (out .entry)) (now (desc .entry)) (now (buf .entry)) ⌝ }
+    ensures { λ r.
+        ⌜ inWords (r .code) (r .len) (now (w .exit)) (now (desc .exit)) (now (buf .entry)) (now (out .exit))
+        ≡ Receive.publish (stateOf (now (w .entry))) (now (out .entry)) (now (desc .entry)) (now (buf .entry)) ⌝ }
 {
     let laid = side::receive_publish(w, &mut desc[..], buf, out);
     Received {
@@ -141,7 +161,9 @@ pub extern "C" fn guc_receive(
     buf: &[u32],
     out: &mut [u32],
 ) -> Received
-    ensures { λ r. ⌜ inWords (r .code) (r .len) (now (w .exit)) (now (desc .exit)) (now (buf .entry)) (now (out .exit)) ≡ Receive.whole (stateOf (now (w .entry))) (now (out .entry)) (now (desc .entry)) (now (buf .entry)) ⌝ }
+    ensures { λ r.
+        ⌜ inWords (r .code) (r .len) (now (w .exit)) (now (desc .exit)) (now (buf .entry)) (now (out .exit))
+        ≡ Receive.whole (stateOf (now (w .entry))) (now (out .entry)) (now (desc .entry)) (now (buf .entry)) ⌝ }
 {
     let laid = side::receive(w, &mut desc[..], buf, out);
     Received {

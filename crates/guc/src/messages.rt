@@ -128,7 +128,9 @@ fn pack_message(m: Message) -> Packed
 
 // Packs a message of a known type.
 fn packed_as(origin: u32, fence: u32, num_dwords: u32, body: Body) -> Packed
-    ensures { λ r. ⌜ r ≡ packedBy (packAnswer (record { origin = originOf origin; fence = fence; «num_dwords» = «num_dwords»; body = body })) ⌝ }
+    ensures { λ r.
+        ⌜ r ≡ packedBy
+        (packAnswer (record { origin = originOf origin; fence = fence; «num_dwords» = «num_dwords»; body = body })) ⌝ }
 {
     pack_message(Message {
         origin: origin_of(origin),

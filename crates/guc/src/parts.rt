@@ -1,4 +1,5 @@
-// Firmware parts for C: located, and copied out in the call that judges them. One call makes one judgement: number, start and length are that one's.
+// Firmware parts for C: located, and copied out in the call that judges them. One call makes one judgement: number,
+// start and length are that one's.
 ghost use mathlib.Core.Path.{_≡_};
 ghost use mathlib.Core.List.{_++_};
 ghost use Prim.Native.Nat.{_+_, _≤_};
@@ -6,7 +7,8 @@ ghost use lib.ListN.{length, drop};
 ghost use Rattle.firmware.specs.Bytes.{bytes, span};
 ghost use Rattle.firmware.specs.Css;
 ghost use Rattle.firmware.specs.Inside.{hucNumber, hucTruncated};
-ghost use Rattle.guc.specs.Parts.{imageBy, componentOf, ofWhich, cssPart, hucPart, cpdPart, copied, copiedBy, cssCopy, hucCopy, cpdCopy, flag, partBy};
+ghost use Rattle.guc.specs.Parts.{imageBy, componentOf, ofWhich, cssPart, hucPart, cpdPart, flag, partBy};
+ghost use Rattle.guc.specs.Parts.{copied, copiedBy, cssCopy, hucCopy, cpdCopy};
 use crate::refusal::NO_ROOM;
 use crate::refusal::NO_SUCH;
 use firmware::Component;
@@ -29,7 +31,8 @@ pub struct Image {
     pub truncated: u32,
 }
 
-// 0 and where a part lies in the lent blob, with whether its image is truncated, 0 or 1; or the number that refuses it with zeros.
+// 0 and where a part lies in the lent blob, with whether its image is truncated, 0 or 1; or the number that refuses it
+// with zeros.
 #[repr(C)]
 pub struct Part {
     pub code: u32,
@@ -38,7 +41,8 @@ pub struct Part {
     pub len: usize,
 }
 
-// 0 and the bytes copied, with whether the part's image is truncated, or the number that refuses it; 100 with the bytes that are needed.
+// 0 and the bytes copied, with whether the part's image is truncated, or the number that refuses it; 100 with the bytes
+// that are needed.
 #[repr(C)]
 pub struct Copied {
     pub code: u32,
@@ -193,7 +197,10 @@ fn copy_out(code: u32, truncated: u32, part: &[u8], dst: &mut [u8]) -> Copied
 // Copies out the part that was located: its bytes are read, and nothing that was judged is read again.
 fn copy_part(blob: &[u8], l: Located, dst: &mut [u8]) -> Copied
     requires { ⌜ l .start + l .len ≤ length (now blob) ⌝ }
-    ensures { λ r. ⌜ copied r (now (dst .exit)) ≡ copiedBy (l .code) (flag (l .truncated)) (bytes (now (blob .entry)) (span (l .start) (l .start + l .len))) (now (dst .entry)) ⌝ }
+    ensures { λ r.
+        ⌜ copied r (now (dst .exit))
+        ≡ copiedBy (l .code) (flag (l .truncated)) (bytes (now (blob .entry)) (span (l .start) (l .start + l .len)))
+        (now (dst .entry)) ⌝ }
 {
     let start = l.start;
     let end = start + l.len;

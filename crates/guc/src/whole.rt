@@ -16,7 +16,9 @@ pub extern "C" fn guc_whole_open(
     desc: &mut [u32; DESCRIPTOR_DWORDS],
     buf: &[u32],
 ) -> u32
-    ensures { λ r. ⌜ openedTwoWords r (now (sender .exit)) (now (receiver .exit)) (now (desc .exit)) (now (buf .entry)) ≡ opening (now (desc .entry)) (now (buf .entry)) ⌝ }
+    ensures { λ r.
+        ⌜ openedTwoWords r (now (sender .exit)) (now (receiver .exit)) (now (desc .exit)) (now (buf .entry))
+        ≡ opening (now (desc .entry)) (now (buf .entry)) ⌝ }
 {
     side::whole_open(sender, receiver, &mut desc[..], buf)
 }
@@ -28,7 +30,9 @@ pub extern "C" fn guc_whole_send(
     buf: &mut [u32],
     msg: &[u32],
 ) -> u32
-    ensures { λ r. ⌜ inTwoWords r 0 (now (w .exit)) (now (desc .exit)) (now (buf .exit)) [] ≡ Send.whole (wholeOf (now (w .entry))) (now (msg .entry)) (now (desc .entry)) (now (buf .entry)) ⌝ }
+    ensures { λ r.
+        ⌜ inTwoWords r 0 (now (w .exit)) (now (desc .exit)) (now (buf .exit)) []
+        ≡ Send.whole (wholeOf (now (w .entry))) (now (msg .entry)) (now (desc .entry)) (now (buf .entry)) ⌝ }
 {
     side::whole_send(w, &mut desc[..], buf, msg)
 }
@@ -40,7 +44,9 @@ pub extern "C" fn guc_whole_receive(
     buf: &[u32],
     out: &mut [u32],
 ) -> Received
-    ensures { λ r. ⌜ inTwoWords (r .code) (r .len) (now (w .exit)) (now (desc .exit)) (now (buf .entry)) (now (out .exit)) ≡ Receive.whole (wholeOf (now (w .entry))) (now (out .entry)) (now (desc .entry)) (now (buf .entry)) ⌝ }
+    ensures { λ r.
+        ⌜ inTwoWords (r .code) (r .len) (now (w .exit)) (now (desc .exit)) (now (buf .entry)) (now (out .exit))
+        ≡ Receive.whole (wholeOf (now (w .entry))) (now (out .entry)) (now (desc .entry)) (now (buf .entry)) ⌝ }
 {
     let laid = side::whole_receive(w, &mut desc[..], buf, out);
     Received {

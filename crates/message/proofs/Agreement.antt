@@ -1,5 +1,5 @@
--- Messages agree with the tables: unpacking reads exactly the table's fields, and packing and unpacking undo each other, for every type
--- at once. Assumes nothing.
+-- Messages agree with the tables: unpacking reads exactly the table's fields, and packing and unpacking undo each
+-- other, for every type at once. Assumes nothing.
 use Prim.Native.Nat.{ℕ, _+_, _≤_, _<_, _^_}
 use mathlib.Core.Path.{_≡_, refl, ap, _∙_, subst}
 use mathlib.Core.Bool.{Bool, true, false, _&&_, cond}
@@ -72,15 +72,19 @@ unpacks d m u = go (isMessage d) refl
     go true e =
         let f = message-well d e in
         let k = known-body (getD d 1 0) (f .known-type) in
-        let same : decoded (getD d 0 0) (getD d 1 0) (k .0) ≡ m = cc (unpack-some d (k .0) e (k .1)) in
+        let h = getD d 0 0 in
+        let w = getD d 1 0 in
+        let same : decoded h w (k .0) ≡ m = cc (unpack-some d (k .0) e (k .1)) in
         record {
           is-message = e;
-          header = subst (λ (x : Message). holds (headerFields x) (getD d 0 0) ≡ true) same (decoded-header (getD d 0 0) (getD d 1 0) (k .0) f);
-          hxg = subst (λ (x : Message). holds (hxgFields x) (getD d 1 0) ≡ true) same (decoded-hxg (getD d 0 0) (getD d 1 0) (k .0) (k .1));
+          header = subst (λ (x : Message). holds (headerFields x) h ≡ true) same (decoded-header h w (k .0) f);
+          hxg = subst (λ (x : Message). holds (hxgFields x) w ≡ true) same (decoded-hxg h w (k .0) (k .1));
         }
 
 -- a message is what a header and an HXG dword 0 with its fields are decoded to
-decoded-same : (h w : ℕ) (m : Message) → holds (headerFields m) h ≡ true → holds (hxgFields m) w ≡ true → decoded h w (m .body) ≡ m
+decoded-same :
+    (h w : ℕ) (m : Message) → holds (headerFields m) h ≡ true → holds (hxgFields m) w ≡ true
+    → decoded h w (m .body) ≡ m
 unfolding headerFields hxgFields decoded
 decoded-same h w m e f =
     let o : originOf (fieldOf origin w) ≡ m .origin = ap originOf (holds-first _ _ w f) ∙ origin-back (m .origin) in
@@ -133,7 +137,9 @@ made-holds es w t f e =
 made-again : (es : List FieldValue) (w : ℕ) → w < 2 ^ 32 → tiles 32 es ≡ true → holds es w ≡ true → dword es ≡ w
 made-again es w l t h = dword-again 32 w es t h ∙ mod-eq-of-lt l
 
-there : (m : Message) (h w : ℕ) (rest : List ℕ) → pack m ≡ some (h, w) → length rest + 1 ≡ m .«num_dwords» → unpack (h ∷ w ∷ rest) ≡ some m
+there :
+    (m : Message) (h w : ℕ) (rest : List ℕ) → pack m ≡ some (h, w) → length rest + 1 ≡ m .«num_dwords»
+    → unpack (h ∷ w ∷ rest) ≡ some m
 unfolding headerFields hxgFields
 there m h w rest e n =
     let p = packs m h w e in
@@ -156,15 +162,18 @@ there m h w rest e n =
 header-low : (d : List ℕ) (m : Message) → Unpacks d m → 1 ≤ m .«num_dwords»
 unfolding headerFields
 header-low d m u =
-    let e = u .header in
-    omega (arith, message-well d (u .is-message) .low, holds-first _ _ (getD d 0 0) (holds-rest _ _ (getD d 0 0) (holds-rest _ _ (getD d 0 0) (holds-rest _ _ (getD d 0 0) e))))
+    let h = getD d 0 0 in
+    let e = holds-first _ _ h (holds-rest _ _ h (holds-rest _ _ h (holds-rest _ _ h (u .header)))) in
+    omega (arith, message-well d (u .is-message) .low, e)
 
 -- what unpacks fits its places, so that it packs
 packs-again : (d : List ℕ) (m : Message) → Unpacks d m → pack m ≡ some (dword (headerFields m), dword (hxgFields m))
 packs-again d m u =
     packs-i m (header-low d m u) (holds-fit (headerFields m) (getD d 0 0) (u .header)) (holds-fit (hxgFields m) (getD d 1 0) (u .hxg))
 
-back : (d : List ℕ) (m : Message) → getD d 0 0 < 2 ^ 32 → getD d 1 0 < 2 ^ 32 → unpack d ≡ some m → pack m ≡ some (getD d 0 0, getD d 1 0)
+back :
+    (d : List ℕ) (m : Message) → getD d 0 0 < 2 ^ 32 → getD d 1 0 < 2 ^ 32 → unpack d ≡ some m
+    → pack m ≡ some (getD d 0 0, getD d 1 0)
 back d m lh lw e =
     let u = unpacks d m e in
     let eh = made-again (headerFields m) (getD d 0 0) lh (header-tiles m) (u .header) in
@@ -174,10 +183,14 @@ back d m lh lw e =
 never : (d : List ℕ) (m : Message) → pack m ≡ none → unpack d ≡ some m → ⊥
 never d m n e = let z : _≡_ {A = ℕ} 0 1 = cc (packs-again d m (unpacks d m e)) in omega arith
 
-packs-to : (m : Message) (h w : ℕ) → pack m ≡ some (h, w) → (1 ≤ m .«num_dwords») × (holds (headerFields m) h ≡ true) × (holds (hxgFields m) w ≡ true)
+packs-to :
+    (m : Message) (h w : ℕ) → pack m ≡ some (h, w)
+    → (1 ≤ m .«num_dwords») × (holds (headerFields m) h ≡ true) × (holds (hxgFields m) w ≡ true)
 packs-to m h w e =
     let p = packs m h w e in
-    (p .low, made-holds (headerFields m) h (header-tiles m) (p .header-fits) (p .header), made-holds (hxgFields m) w (hxg-tiles m) (p .hxg-fits) (p .hxg))
+    let eh = made-holds (headerFields m) h (header-tiles m) (p .header-fits) (p .header) in
+    let ew = made-holds (hxgFields m) w (hxg-tiles m) (p .hxg-fits) (p .hxg) in
+    (p .low, eh, ew)
 
 packs-from :
     (m : Message) (h w : ℕ) → h < 2 ^ 32 → w < 2 ^ 32
@@ -187,7 +200,8 @@ packs-from m h w lh lw u =
     let ew = made-again (hxgFields m) w lw (hxg-tiles m) (u .2) in
     rw (packs-i m (u .0) (holds-fit (headerFields m) h (u .1)) (holds-fit (hxgFields m) w (u .2)), eh, ew)
 
--- a header and an HXG dword 0 are well formed by the paper's list exactly when they are by the test, type 4 being the unknown one
+-- a header and an HXG dword 0 are well formed by the paper's list exactly when they are by the test, type 4 being the
+-- unknown one
 rule-from : (h w : ℕ) → WellFormed h w → MendedRule h w
 rule-from h w f = (f .format-zero, f .reserved-zero, f .low, f .high, type-4-unknown w (f .known-type))
 

@@ -39,7 +39,8 @@ module _ (d : List ℕ) where
   pub message-length : isMessage d ≡ true → length d ≡ totalLength (getD d 0 0)
   unfolding isMessage
   message-length e =
-      eqb-true (length d) (totalLength (getD d 0 0)) (and-l (eqb (length d) (totalLength (getD d 0 0))) (wellFormed (getD d 0 0) (getD d 1 0)) e)
+      let l = totalLength (getD d 0 0) in
+      eqb-true (length d) l (and-l (eqb (length d) l) (wellFormed (getD d 0 0) (getD d 1 0)) e)
 
   pub message-formed : isMessage d ≡ true → wellFormed (getD d 0 0) (getD d 1 0) ≡ true
   unfolding isMessage

@@ -32,7 +32,8 @@ regroup true false true o d e = refl
 regroup true false false o d e = refl
 regroup false b c o d e = refl
 
--- the fields of a body fill the bits below its origin, and those of a header and of an HXG dword 0 a dword, for every type
+-- the fields of a body fill the bits below its origin, and those of a header and of an HXG dword 0 a dword, for every
+-- type
 pub body-tiles : (b : Body) → tiles 31 (bodyFields b) ≡ true
 unfolding bodyFields carried tiles
 body-tiles (Request d a) = refl
@@ -59,12 +60,16 @@ pub pack-is :
     none
 unfolding pack headerFields hxgFields fit dword
 pack-is m =
-    let t = regroup (leb 1 (m .«num_dwords»)) (ltb (m .«num_dwords») 256) (ltb (m .fence) 65536) (ltb (originNumber (m .origin)) 2) (fit (bodyFields (m .body))) (origin-fits (m .origin)) in
+    let n = m .«num_dwords» in
+    let o = ltb (originNumber (m .origin)) 2 in
+    let t = regroup (leb 1 n) (ltb n 256) (ltb (m .fence) 65536) o (fit (bodyFields (m .body))) (origin-fits (m .origin)) in
     let h : m .fence * 65536 + (0 + (0 + (m .«num_dwords» * 1 + 0))) ≡ m .fence * 65536 + m .«num_dwords» = omega arith in
     cc
 
 -- a whole message with a body is unpacked, and any other list is not
-pub unpack-some : (d : List ℕ) (b : Body) → isMessage d ≡ true → bodyOf (getD d 1 0) ≡ some b → unpack d ≡ some (decoded (getD d 0 0) (getD d 1 0) b)
+pub unpack-some :
+    (d : List ℕ) (b : Body) → isMessage d ≡ true → bodyOf (getD d 1 0) ≡ some b
+    → unpack d ≡ some (decoded (getD d 0 0) (getD d 1 0) b)
 unfolding unpack Option·elim
 unpack-some d b e f = rw (e, f)
 

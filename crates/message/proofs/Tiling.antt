@@ -1,5 +1,5 @@
--- Fields that lie side by side, from a bit down to bit 0: the one law by which a dword is taken apart into its fields and put
--- together again, for any such fields. Assumes nothing.
+-- Fields that lie side by side, from a bit down to bit 0: the one law by which a dword is taken apart into its fields
+-- and put together again, for any such fields. Assumes nothing.
 use Prim.Native.Nat.{ℕ, _+_, _-_, _*_, _/_, _%_, _^_, _<_}
 use mathlib.Core.Path.{_≡_, refl, sym, subst}
 use mathlib.Core.Bool.{Bool, true, _&&_}
@@ -52,7 +52,8 @@ module _ (e : FieldValue) (es : List FieldValue) where
     unfolding tiles below width
     tiles-first =
         let l = leb-true (bitsOf (e .0) .low) (bitsOf (e .0) .high) (and-l (leb (bitsOf (e .0) .low) (bitsOf (e .0) .high)) below p) in
-        let h = eqb-true t (bitsOf (e .0) .high + 1) (and-l (eqb t (bitsOf (e .0) .high + 1)) (tiles (bitsOf (e .0) .low) es) tiles-below) in
+        let top = bitsOf (e .0) .high + 1 in
+        let h = eqb-true t top (and-l (eqb t top) (tiles (bitsOf (e .0) .low) es) tiles-below) in
         omega arith
 
     tiles-rest : tiles (bitsOf (e .0) .low) es ≡ true
@@ -78,7 +79,8 @@ dword-lt t (e ∷ es) p f =
     (digits-lt (fit-first e es f) (dword-lt (bitsOf (e .0) .low) es (tiles-rest e es t p) (fit-rest e es f)))
 
 -- a dword made of numbers that fit holds them, whatever stands above its fields
-pub dword-holds : (t hi : ℕ) (es : List FieldValue) → tiles t es ≡ true → fit es ≡ true → holds es (hi * 2 ^ t + dword es) ≡ true
+pub dword-holds :
+    (t hi : ℕ) (es : List FieldValue) → tiles t es ≡ true → fit es ≡ true → holds es (hi * 2 ^ t + dword es) ≡ true
 unfolding dword holds width
 dword-holds t hi [] p f = refl
 dword-holds t hi (e ∷ es) p f =

@@ -19,9 +19,11 @@ next : {P : Type 0} (t k : ℕ) → k ≤ t → (t ≡ k → P) → (k + 1 ≤ t
 next t k l p q = cases (eqb t k) (λ e. p (eqb-true t k e)) (λ e. q (omega (arith, eqb-false t k e)))
 
 pub by-type :
-    {P : Type 0} (word : ℕ) → (fieldOf type word ≡ 0 → P) → (fieldOf type word ≡ 1 → P) → (fieldOf type word ≡ 2 → P)
-    → (fieldOf type word ≡ 3 → P) → (fieldOf type word ≡ 4 → P) → (fieldOf type word ≡ 5 → P) → (fieldOf type word ≡ 6 → P)
-    → (fieldOf type word ≡ 7 → P) → P
+    {P : Type 0} (word : ℕ)
+    → let t = fieldOf type word in
+    (t ≡ 0 → P) → (t ≡ 1 → P) → (t ≡ 2 → P) → (t ≡ 3 → P)
+    → (t ≡ 4 → P) → (t ≡ 5 → P) → (t ≡ 6 → P) → (t ≡ 7 → P)
+    → P
 by-type word p0 p1 p2 p3 p4 p5 p6 p7 =
     let t = fieldOf type word in
     next t 0 (omega arith) p0
@@ -37,15 +39,20 @@ type-4-unknown word k e = let z : false ≡ true = simp e at k in let y : _≡_ 
 pub others-known : (word : ℕ) → (fieldOf type word ≡ 4 → ⊥) → known word ≡ true
 unfolding known bodyOf bodiesFrom bodies ofType typeOf someBody
 others-known word n =
-    by-type word (λ e. simp e) (λ e. simp e) (λ e. simp e) (λ e. simp e) (λ e. absurd (n e)) (λ e. simp e) (λ e. simp e) (λ e. simp e)
+    by-type word
+    (λ e. simp e) (λ e. simp e) (λ e. simp e) (λ e. simp e)
+    (λ e. absurd (n e)) (λ e. simp e) (λ e. simp e) (λ e. simp e)
 
 -- the type that is left where the others are ruled out
 pub else-success :
-    (word : ℕ) → known word ≡ true → (fieldOf type word ≡ 0 → ⊥) → (fieldOf type word ≡ 1 → ⊥) → (fieldOf type word ≡ 2 → ⊥)
-    → (fieldOf type word ≡ 3 → ⊥) → (fieldOf type word ≡ 5 → ⊥) → (fieldOf type word ≡ 6 → ⊥) → fieldOf type word ≡ 7
+    (word : ℕ) → known word ≡ true
+    → let t = fieldOf type word in
+    (t ≡ 0 → ⊥) → (t ≡ 1 → ⊥) → (t ≡ 2 → ⊥) → (t ≡ 3 → ⊥) → (t ≡ 5 → ⊥) → (t ≡ 6 → ⊥)
+    → t ≡ 7
 else-success word k n0 n1 n2 n3 n5 n6 =
-    by-type word (λ e. absurd (n0 e)) (λ e. absurd (n1 e)) (λ e. absurd (n2 e)) (λ e. absurd (n3 e)) (λ e. absurd (type-4-unknown word k e))
-    (λ e. absurd (n5 e)) (λ e. absurd (n6 e)) (λ e. e)
+    by-type word
+    (λ e. absurd (n0 e)) (λ e. absurd (n1 e)) (λ e. absurd (n2 e)) (λ e. absurd (n3 e))
+    (λ e. absurd (type-4-unknown word k e)) (λ e. absurd (n5 e)) (λ e. absurd (n6 e)) (λ e. e)
 
 -- a dword of a known type holds a body, and no other does
 pub body-known : (word : ℕ) (b : Body) → bodyOf word ≡ some b → known word ≡ true
@@ -72,10 +79,14 @@ bodies-read : (word : ℕ) → reads word (bodies word) ≡ true
 unfolding reads bodiesFrom bodies carried holds
 bodies-read word = simp eqb-self
 
-picked-holds : (word : ℕ) (bs : List Body) (b : Body) → reads word bs ≡ true → ofType (fieldOf type word) bs ≡ some b → holds (bodyFields b) word ≡ true
+picked-holds :
+    (word : ℕ) (bs : List Body) (b : Body) → reads word bs ≡ true → ofType (fieldOf type word) bs ≡ some b
+    → holds (bodyFields b) word ≡ true
 unfolding reads ofType bodyFields holds
 picked-holds word [] b r e = let z : _≡_ {A = ℕ} 0 1 = cc in absurd (omega arith)
-picked-holds word (x ∷ xs) b r e = go (eqb (fieldOf type word) (typeOf x)) refl e (picked-holds word xs b (and-r (holds (carried x) word) (reads word xs) r))
+picked-holds word (x ∷ xs) b r e =
+    go (eqb (fieldOf type word) (typeOf x)) refl e
+    (picked-holds word xs b (and-r (holds (carried x) word) (reads word xs) r))
   where
     go : (t : Bool) → eqb (fieldOf type word) (typeOf x) ≡ t → cond t (some x) (ofType (fieldOf type word) xs) ≡ some b
         → (ofType (fieldOf type word) xs ≡ some b → holds (bodyFields b) word ≡ true) → holds (bodyFields b) word ≡ true

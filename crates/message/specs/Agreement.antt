@@ -1,4 +1,5 @@
--- Messages agree with the tables, packing and unpacking alike: what the customer's second demand asks of messages, for every type at once.
+-- Messages agree with the tables, packing and unpacking alike: what the customer's second demand asks of messages, for
+-- every type at once.
 use Prim.Native.Nat.{ℕ, _+_, _≤_, _<_, _^_}
 use mathlib.Core.Path.{_≡_}
 use mathlib.Core.Logic.{_↔_}
@@ -13,10 +14,12 @@ use Rattle.message.specs.Packing.{unpack, pack, headerFields, hxgFields,
 use Rattle.message.specs.declared.Body.the-variants.{FastRequest}
 use Rattle.message.specs.declared.Message.{Message}
 
--- 'Well formed: format 0, reserved 0, NUM_DWORDS 1 to 255, and a known HXG type in the second dword', where 'only type 4 stays unknown'
+-- 'Well formed: format 0, reserved 0, NUM_DWORDS 1 to 255, and a known HXG type in the second dword', where 'only type
+-- 4 stays unknown'
 abbrev pub MendedRule : ℕ → ℕ → Type 0
 MendedRule h w =
-    (fieldOf format h ≡ 0) × (fieldOf reserved h ≡ 0) × (1 ≤ fieldOf numDwords h) × (fieldOf numDwords h ≤ 255) × (fieldOf type w ≡ 4 → ⊥)
+    (fieldOf format h ≡ 0) × (fieldOf reserved h ≡ 0) × (1 ≤ fieldOf numDwords h) × (fieldOf numDwords h ≤ 255)
+    × (fieldOf type w ≡ 4 → ⊥)
 
 pub record Agreement : Type 0 where
   -- what the calls answer, beside their number, is this
@@ -24,11 +27,15 @@ pub record Agreement : Type 0 where
   pub unpacking-answers : (d : List ℕ) → unpackAnswer d .value ≡ unpack d
   -- 'only type 4 stays unknown': the type of a dword is known exactly when it is not 4
   pub only-4-unknown : (w : ℕ) → (known w ≡ true) ↔ (fieldOf type w ≡ 4 → ⊥)
-  -- 'type 2, a fast request, which wants no success reply and is laid out as a request': its data and action are read where a request's are
-  pub fast-request : (w : ℕ) → fieldOf type w ≡ 2 → bodyOf w ≡ some (FastRequest (fieldOf requestData w) (fieldOf requestAction w))
+  -- 'type 2, a fast request, which wants no success reply and is laid out as a request': its data and action are read
+  -- where a request's are
+  pub fast-request :
+      (w : ℕ) → fieldOf type w ≡ 2 → bodyOf w ≡ some (FastRequest (fieldOf requestData w) (fieldOf requestAction w))
   -- 'Refusals 4 and 13 follow the mended rule': the two tests that they ask, as 3 does of a send's copy
   pub well-formed : (h w : ℕ) → (wellFormed h w ≡ true) ↔ MendedRule h w
-  pub whole : (d : List ℕ) → (isMessage d ≡ true) ↔ ((length d ≡ totalLength (getD d 0 0)) × MendedRule (getD d 0 0) (getD d 1 0))
+  pub whole :
+      (d : List ℕ)
+      → (isMessage d ≡ true) ↔ ((length d ≡ totalLength (getD d 0 0)) × MendedRule (getD d 0 0) (getD d 1 0))
   -- 'Unpacking takes a whole message and refuses a malformed one'
   pub accepts : (d : List ℕ) → isMessage d ≡ true → (m : Message) × (unpack d ≡ some m)
   pub refuses : (d : List ℕ) → isMessage d ≡ false → unpack d ≡ none

@@ -1,5 +1,5 @@
--- Where each number of a CTB header and of an HXG dword 0 stands (document 01, 'Messages', and for the fast request document 02, T-02): one
--- table, and what it is to read a field of a dword and to put one there.
+-- Where each number of a CTB header and of an HXG dword 0 stands (document 01, 'Messages', and for the fast request
+-- document 02, T-02): one table, and what it is to read a field of a dword and to put one there.
 use Prim.Native.Nat.{ℕ, _+_, _-_, _*_, _/_, _%_, _^_}
 use mathlib.Core.Bool.{Bool, true, _&&_}
 use mathlib.Core.List.{List, [], _∷_}

@@ -27,7 +27,13 @@ originOf bit = cond (eqb bit 0) Host Guc
 
 -- 'Unpacked, a decoded message holds its origin, its fence and one of' the seven bodies, 'beside its NUM_DWORDS'
 unfoldable pub decoded : ℕ → ℕ → Body → Message
-decoded header word b = record { origin = originOf (fieldOf origin word); fence = fieldOf fence header; «num_dwords» = fieldOf numDwords header; body = b }
+decoded header word b =
+    record {
+      origin = originOf (fieldOf origin word);
+      fence = fieldOf fence header;
+      «num_dwords» = fieldOf numDwords header;
+      body = b;
+    }
 
 -- 'Unpacking takes a whole message and refuses a malformed one': the decoded message, or none
 unfoldable pub unpack : List ℕ → Option Message
@@ -67,7 +73,8 @@ unpackAnswer dwords = refusing 4 (unpack dwords)
 abbrev pub packAnswer : Message → Answer (ℕ × ℕ)
 packAnswer m = refusing 14 (pack m)
 
--- the paper's number and values for each case of the answers in code: 'A refused packing answers no dword, a refused unpacking no message'
+-- the paper's number and values for each case of the answers in code: 'A refused packing answers no dword, a refused
+-- unpacking no message'
 unfoldable pub ofUnpacked : Unpacked → Answer Message
 ofUnpacked Malformed = record { number = 4; value = none }
 ofUnpacked (Decoded m) = record { number = 0; value = some m }

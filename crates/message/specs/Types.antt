@@ -1,16 +1,20 @@
--- The types of HXG messages (document 01, 'Messages'): the number of each, its fields, and which types are known. Document 02 (T-02)
--- corrects document 01 here: 'The current public HXG header lists type 2, a fast request, which wants no success reply and is laid out as a
--- request.' Linux names it GUC_HXG_TYPE_FAST_REQUEST. To the channel one known type is as good as another: who wants which reply is its callers' matter.
+-- The types of HXG messages (document 01, 'Messages'): the number of each, its fields, and which types are known.
+-- Document 02 (T-02) corrects document 01 here: 'The current public HXG header lists type 2, a fast request, which
+-- wants no success reply and is laid out as a request.' Linux names it GUC_HXG_TYPE_FAST_REQUEST. To the channel one
+-- known type is as good as another: who wants which reply is its callers' matter.
 use Prim.Native.Nat.{ℕ}
 use mathlib.Core.Bool.{Bool, true, false, cond}
 use mathlib.Core.List.{List, [], _∷_}
 use mathlib.Core.Option.{Option, none, some}
 use lib.Dec.{eqb}
-use Rattle.message.specs.Fields.{Field, requestData, requestAction, eventData, eventAction, fastRequestData, fastRequestAction, busyCounter, retryReason, failureHint, failureError, successData, type, fieldOf, FieldValue}
+use Rattle.message.specs.Fields.{Field, requestData, requestAction, eventData, eventAction}
+use Rattle.message.specs.Fields.{fastRequestData, fastRequestAction, busyCounter, retryReason, failureHint}
+use Rattle.message.specs.Fields.{failureError, successData, type, fieldOf, FieldValue}
 use Rattle.message.specs.declared.Body.{Body}
 use Rattle.message.specs.declared.Body.the-variants.{Request, Event, FastRequest, Busy, Retry, Failure, Success}
 
--- the columns 'Type' and 'Meaning' of the table: 0 request, 1 event, 2 fast request, 3 busy, 5 retry, 6 failure, 7 success
+-- the columns 'Type' and 'Meaning' of the table: 0 request, 1 event, 2 fast request, 3 busy, 5 retry, 6 failure, 7
+-- success
 unfoldable pub typeOf : Body → ℕ
 typeOf (Request d a) = 0
 typeOf (Event d a) = 1

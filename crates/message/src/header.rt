@@ -75,8 +75,8 @@ pub fn well_formed(header: u32, word: u32) -> bool
     (format == 0) & (reserved == 0) & (1 <= n) & (n <= NUM_DWORDS_MAX) & known_type(word)
 }
 
-// Whether that many dwords, of which these are the first two, are one well-formed message, exactly L of them. It is lent no message: who asks has read the two
-// dwords, and goes on with what was judged.
+// Whether that many dwords, of which these are the first two, are one well-formed message, exactly L of them. It is
+// lent no message: who asks has read the two dwords, and goes on with what was judged.
 pub fn starts_message(len: usize, header: u32, word: u32) -> bool
     ensures { λ r. ⌜ r ≡ startsMessage len header word ⌝ }
 {

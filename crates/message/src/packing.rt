@@ -39,7 +39,9 @@ fn one_field(t: u32, all: u32) -> Placed
 // A type with a field in bits 27:16 and one in bits 15:0.
 fn two_fields(t: u32, upper: u32, lower: u32) -> Placed
     requires { ⌜ t < 8 ⌝ }
-    ensures { λ r. ⌜ r ≡ cond (ltb upper 0x1000 && ltb lower 0x1_0000) (Placed.Bits (t * 0x1000_0000 + upper * 0x1_0000 + lower)) Placed.TooWide ⌝ }
+    ensures { λ r.
+        ⌜ r ≡ cond (ltb upper 0x1000 && ltb lower 0x1_0000)
+        (Placed.Bits (t * 0x1000_0000 + upper * 0x1_0000 + lower)) Placed.TooWide ⌝ }
 {
     if upper < 0x1000 {
         if lower < 0x1_0000 {

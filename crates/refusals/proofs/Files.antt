@@ -1,4 +1,5 @@
--- The numbers of messages and of firmware calls are those of the first row that is given, and a refused one gives nothing. Assumes nothing.
+-- The numbers of messages and of firmware calls are those of the first row that is given, and a refused one gives
+-- nothing. Assumes nothing.
 use Prim.Native.Nat.{ℕ, _<_}
 use mathlib.Core.Path.{_≡_, refl, sym, ap, _∙_}
 use mathlib.Core.Bool.{Bool, true, false, not, _&&_, _||_, cond}
@@ -22,7 +23,8 @@ use Rattle.firmware.specs.declared.bytes.Located.{Located}
 use Rattle.firmware.proofs.Count.{count-some, count-two, count-zero, two-count}
 use Rattle.firmware.proofs.Search.{all-each, all-fails, first-met, none-met}
 use Rattle.refusals.specs.Order.{Row, row}
-use Rattle.refusals.specs.Table.{any, directoryRows, entryRows, imageRows, manifestRows, row-4, row-14-fields, row-20, row-20-index, row-21, row-22, seekTests}
+use Rattle.refusals.specs.Table.{any, directoryRows, entryRows, imageRows, manifestRows, row-4}
+use Rattle.refusals.specs.Table.{row-14-fields, row-20, row-20-index, row-21, row-22, seekTests}
 use Rattle.refusals.specs.Refusals.{LocationRefused, hucTests, manifestTests}
 use Rattle.refusals.proofs.Lowest.{first-behind, firstJudged, firstOf, rising}
 use Rattle.refusals.proofs.Rows.{below, either-fails}
@@ -36,7 +38,9 @@ refused-nothing n none z = refl
 refused-nothing n (some a) z = absurd (z refl)
 
 -- what is refused by n where a test holds
-number-by : {A : Type 0} (n : ℕ) (t : Bool) (x : Option A) → (t ≡ true → (a : A) × (x ≡ some a)) → (t ≡ false → x ≡ none) → refusing n x .number ≡ cond (not t) n 0
+number-by :
+    {A : Type 0} (n : ℕ) (t : Bool) (x : Option A) → (t ≡ true → (a : A) × (x ≡ some a)) → (t ≡ false → x ≡ none)
+    → refusing n x .number ≡ cond (not t) n 0
 unfolding refusing
 number-by n true x met unmet = let a = met refl in rw (a .1)
 number-by n false x met unmet = rw (unmet refl)
@@ -84,7 +88,9 @@ directory-number b =
     rw same
 
 -- behind the directory's own numbers
-behind : (b : List ℕ) (number : ℕ) (more : List Row) → number ≡ firstOf more → then (Cpd.directoryNumber b) number ≡ firstOf (directoryRows b ++ more)
+behind :
+    (b : List ℕ) (number : ℕ) (more : List Row) → number ≡ firstOf more
+    → then (Cpd.directoryNumber b) number ≡ firstOf (directoryRows b ++ more)
 unfolding rising
 behind b number more e = rw (directory-number b, e) (sym (first-behind 0 (directoryRows b) more refl))
 
@@ -154,11 +160,15 @@ module _ (p : ℕ → Bool) (n : ℕ) where
       any-false (λ j. p j && any p j) n
       (λ j l u.
       let m = any-met p j (and-r (p j) (any p j) u) in
-      absurd (omega (arith, ltb-false 1 (Cpd.countFrom p 0 n) t, two-count p n (Cpd.firstFrom p 0 j) j (m .0) l (m .1) (and-l (p j) (any p j) u))))
+      let twice = two-count p n (Cpd.firstFrom p 0 j) j (m .0) l (m .1) (and-l (p j) (any p j) u) in
+      absurd (omega (arith, ltb-false 1 (Cpd.countFrom p 0 n) t, twice)))
       ∙ sym t)
 
 -- 20, then 22, then 21 where there is an entry
-named-rows : (t u v x : Bool) → (t ≡ false → v ≡ true) → cond t 20 (cond u 22 (cond x 21 0)) ≡ then (firstOf (row 20 t ∷ [])) (firstJudged ((row 22 u ∷ []) ∷ (row 21 (v && x) ∷ []) ∷ []))
+named-rows :
+    (t u v x : Bool) → (t ≡ false → v ≡ true)
+    → cond t 20 (cond u 22 (cond x 21 0))
+    ≡ then (firstOf (row 20 t ∷ [])) (firstJudged ((row 22 u ∷ []) ∷ (row 21 (v && x) ∷ []) ∷ []))
 unfolding firstOf firstJudged
 named-rows true u v x e = refl
 named-rows false true v x e = refl
@@ -201,7 +211,9 @@ module _ (b name : List ℕ) where
   seek-number = cases (Cpd.isName name) (λ t. rw t behind-directory) (λ t. rw t)
 
 -- what lies inside is judged behind it
-seek-then : (b name : List ℕ) (number : ℕ) (inner : List Row) → number ≡ firstOf inner → then (Cpd.number b name) number ≡ firstJudged (seekTests b name ++ (inner ∷ []))
+seek-then :
+    (b name : List ℕ) (number : ℕ) (inner : List Row) → number ≡ firstOf inner
+    → then (Cpd.number b name) number ≡ firstJudged (seekTests b name ++ (inner ∷ []))
 seek-then b name number inner e = rw (seek-number b name, e, alone inner) (judged-behind (seekTests b name) (inner ∷ []))
 
 pub manifest-number : (b : List ℕ) → manifestNumber b ≡ firstJudged (manifestTests b)
@@ -217,6 +229,7 @@ huc-number b = seek-then b hucName _ (imageRows (hucBlob b)) (image-number (hucB
 pub location-refused : (number : ℕ) (l : Located) → l ≡ placed number false nowhere → LocationRefused l
 location-refused number l e = rw e (record { at-start = refl; empty = refl; not-truncated = refl })
 
-pub reading-refused : (number : ℕ) (version : List ℕ) → (reading number version .number ≡ 0 → ⊥) → reading number version .version ≡ []
+pub reading-refused :
+    (number : ℕ) (version : List ℕ) → (reading number version .number ≡ 0 → ⊥) → reading number version .version ≡ []
 unfolding reading
 reading-refused number version z = rw (ne-eqb number 0 z)

@@ -9,7 +9,7 @@ use lib.Seq.{drop-set-lt, getD-take, take-set-lt}
 use lib.Dec.{eqb}
 use borrow.Author.Tests.{eqb-true}
 use Rattle.ring.specs.Ring.{HEAD, STATUS, head, tail, status}
-use Rattle.ring.specs.Numbers.{need}
+use Rattle.ring.specs.Numbers.{firstNeeds, need}
 use Rattle.ring.proofs.Chains.{true-false}
 use Rattle.message.proofs.Tests.{cases}
 use Rattle.refusals.specs.Left.{descriptorLeft, reservedWords, unreservedWords}
@@ -40,6 +40,14 @@ pub one-need : (may : List ℕ) (t : Bool) (k r : ℕ) → oneOf may k ≡ true 
 unfolding need
 one-need may true k r p q = q
 one-need may false k r p q = p
+
+-- and where 1, 2, 3 and what is behind them do
+pub one-first :
+    (may : List ℕ) (d n : ℕ) (fits : Bool) (r : ℕ) → oneOf may 1 ≡ true → oneOf may 2 ≡ true → oneOf may 3 ≡ true
+    → oneOf may r ≡ true
+    → oneOf may (firstNeeds d n fits r) ≡ true
+unfolding firstNeeds
+one-first may d n fits r p₁ p₂ p₃ q = one-need may _ 1 _ p₁ (one-need may _ 2 _ p₂ (one-need may _ 3 _ p₃ q))
 
 -- one of the list is none that is not in it
 pub not-one : (may : List ℕ) (c k : ℕ) → oneOf may c ≡ true → oneOf may k ≡ false → eqb c k ≡ false

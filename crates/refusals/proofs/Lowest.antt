@@ -1,4 +1,5 @@
--- The first row of a rising list that is given has the lowest number that applies, and there is one answer to what is judged. Assumes nothing.
+-- The first row of a rising list that is given has the lowest number that applies, and there is one answer to what is
+-- judged. Assumes nothing.
 use Prim.Native.Nat.{ℕ, _<_}
 use mathlib.Core.Path.{_≡_, refl, sym, _∙_, subst}
 use mathlib.Core.Logic.{_↔_, _⊎_, inl, inr}
@@ -51,7 +52,8 @@ above low (r ∷ rs) k e (inr a) =
     omega arith
 
 -- the first row that is given: nothing lower applies
-given-first : (low : ℕ) (r : Row) (rs : List Row) (k : ℕ) → rising low (r ∷ rs) ≡ true → k < r .number → Applies (r ∷ rs) k → ⊥
+given-first :
+    (low : ℕ) (r : Row) (rs : List Row) (k : ℕ) → rising low (r ∷ rs) ≡ true → k < r .number → Applies (r ∷ rs) k → ⊥
 unfolding Applies
 given-first low r rs k e h (inl (q, g)) = absurd (omega (arith, q))
 given-first low r rs k e h (inr a) = let p : r .number < k = above (r .number) rs k (others-rise low r rs e) a in absurd (omega arith)
@@ -115,7 +117,10 @@ one-answer (rs ∷ later) c k (inl p) (inr (n, q)) = absurd (n c (p .applies))
 one-answer (rs ∷ later) c k (inr (n, p)) (inl q) = absurd (n k (q .applies))
 one-answer (rs ∷ later) c k (inr (n, p)) (inr (m, q)) = one-answer later c k p q
 
-goes-on : (rs : List Row) (later : List (List Row)) → rising 0 rs ≡ true → Answered later (firstJudged later) → FirstIs rs (firstOf rs) → Answered (rs ∷ later) (firstJudged (rs ∷ later))
+goes-on :
+    (rs : List Row) (later : List (List Row)) → rising 0 rs ≡ true → Answered later (firstJudged later)
+    → FirstIs rs (firstOf rs)
+    → Answered (rs ∷ later) (firstJudged (rs ∷ later))
 unfolding Answered firstJudged FirstIs
 goes-on rs later e p (inl l) =
     let z : eqb (firstOf rs) 0 ≡ false = ne-eqb (firstOf rs) 0 (λ q. absurd (omega (arith, above 0 rs (firstOf rs) e (l .applies)))) in
@@ -130,7 +135,8 @@ judged-first (rs ∷ later) e =
     goes-on rs later r (judged-first later (and-r (rising 0 rs) (allRise later) e)) (first-is 0 rs r)
 
 -- a call whose number is that of the first row given answers exactly as the table says
-pub exactly : (js : List (List Row)) (number c : ℕ) → allRise js ≡ true → number ≡ firstJudged js → (number ≡ c) ↔ Answered js c
+pub exactly :
+    (js : List (List Row)) (number c : ℕ) → allRise js ≡ true → number ≡ firstJudged js → (number ≡ c) ↔ Answered js c
 exactly js number c e same =
     let is : Answered js number = subst (Answered js) (sym same) (judged-first js e) in
     ((λ q. subst (Answered js) q is), (λ a. one-answer js number c is a))
@@ -154,7 +160,9 @@ accepts js number e same =
     ((λ q. all-pass js e (x .0 q)), (λ p. x .1 (pass-all js p)))
 
 -- rows behind others: they are asked where none of those is given
-pub first-behind : (low : ℕ) (rs more : List Row) → rising low rs ≡ true → firstOf (rs ++ more) ≡ cond (eqb (firstOf rs) 0) (firstOf more) (firstOf rs)
+pub first-behind :
+    (low : ℕ) (rs more : List Row) → rising low rs ≡ true
+    → firstOf (rs ++ more) ≡ cond (eqb (firstOf rs) 0) (firstOf more) (firstOf rs)
 unfolding firstOf
 first-behind low [] more e = refl
 first-behind low (r ∷ rs) more e =

@@ -8,7 +8,7 @@ use lib.ListN.{length, getD, take, drop, set}
 use lib.Dec.{eqb}
 use borrow.Author.Tests.{eqb-true, ne-eqb}
 use Rattle.ring.specs.AtOnce.{lengthAt, messageAt, receiveBy, receiveNumber}
-use Rattle.ring.specs.Numbers.{firstNeeds, lookNeeds, marked, receiveDecision, receiveLookNeeds, takeDecision}
+use Rattle.ring.specs.Numbers.{lookNeeds, marked, receiveDecision, receiveLookNeeds, takeDecision}
 use Rattle.channel.specs.Opening.{openBy, openNumber, opening}
 use Rattle.ring.specs.Ring.{HEAD}
 use Rattle.channel.specs.State.{State, idle, idleAt}
@@ -18,7 +18,8 @@ use Rattle.channel.proofs.ReceiveAtOnce.{receive-at-once, receiveOutcome}
 use Rattle.channel.specs.Steps.{nextPlace, pastMessage}
 use Rattle.channel.specs.Operations.{receiveLook, receiveMove, receivePublish, receiveWhole}
 use Rattle.refusals.specs.Left.{OpeningRefused, stateLeft, descriptorLeft}
-use Rattle.refusals.proofs.Laws.{Alike, goingOn, lookingReceive, mild-none, mild-set, not-one, one-need, oneOf, publishingReceive, wholeReceiving}
+use Rattle.refusals.proofs.Laws.{Alike, goingOn, lookingReceive, mild-none, mild-set}
+use Rattle.refusals.proofs.Laws.{not-one, one-first, one-need, oneOf, publishingReceive, wholeReceiving}
 use Rattle.refusals.proofs.Says.{Accepts, Says, refusal, says}
 use Rattle.refusals.proofs.Sends.{one-on}
 
@@ -26,16 +27,19 @@ use Rattle.refusals.proofs.Sends.{one-on}
 
 module _ (s : State) (b : List ℕ) where
   look-one : (d : List ℕ) → oneOf lookingReceive (Receive.lookNumber s d b) ≡ true
-  unfolding oneOf receiveDecision firstNeeds receiveLookNeeds lookNeeds
+  unfolding oneOf receiveDecision receiveLookNeeds lookNeeds
   look-one d =
       let next = one-need lookingReceive in
-      next _ 1 _ refl (next _ 2 _ refl (next _ 3 _ refl (next _ 6 _ refl (next _ 7 _ refl (next _ 8 _ refl (next _ 9 _ refl (next _ 11 _ refl refl)))))))
+      one-first lookingReceive _ _ _ _ refl refl refl
+      (next _ 6 _ refl (next _ 7 _ refl (next _ 8 _ refl (next _ 9 _ refl (next _ 11 _ refl refl)))))
 
   look-alike : (d e : List ℕ) → Alike d e → Receive.lookNumber s d b ≡ Receive.lookNumber s e b
   unfolding receiveDecision
   look-alike d e a = rw (a .size, a .heads, a .tails, a .statuses)
 
-  look-refuses : (c : ℕ) (d : List ℕ) → eqb c 0 ≡ false → oneOf lookingReceive c ≡ true → Receive.lookBy c s d b ≡ refusal c receiveLook s b d
+  look-refuses :
+      (c : ℕ) (d : List ℕ) → eqb c 0 ≡ false → oneOf lookingReceive c ≡ true
+      → Receive.lookBy c s d b ≡ refusal c receiveLook s b d
   unfolding Receive.lookBy marked descriptorLeft stateLeft oneOf
   look-refuses c d z p = rw (z, not-one lookingReceive c 13 p refl)
 
@@ -65,7 +69,9 @@ module _ (s : State) (b : List ℕ) where
   unfolding Receive.moveNumber
   move-alike d e a = rw (a .size)
 
-  move-refuses : (c : ℕ) (d : List ℕ) → eqb c 0 ≡ false → oneOf goingOn c ≡ true → Receive.moveBy c s d b ≡ refusal c receiveMove s b d
+  move-refuses :
+      (c : ℕ) (d : List ℕ) → eqb c 0 ≡ false → oneOf goingOn c ≡ true
+      → Receive.moveBy c s d b ≡ refusal c receiveMove s b d
   unfolding Receive.moveBy descriptorLeft stateLeft oneOf
   move-refuses c d z p =
       rw (z, not-one goingOn c 7 p refl, not-one goingOn c 8 p refl, not-one goingOn c 9 p refl, not-one goingOn c 13 p refl)
@@ -92,10 +98,10 @@ module _ (s : State) (b : List ℕ) where
 
 module _ (s : State) (o b : List ℕ) where
   publish-one : (d : List ℕ) → oneOf publishingReceive (Receive.publishNumber s o d b) ≡ true
-  unfolding oneOf Receive.publishNumberOf firstNeeds
+  unfolding oneOf Receive.publishNumberOf
   publish-one d =
       let next = one-need publishingReceive in
-      next _ 1 _ refl (next _ 2 _ refl (next _ 3 _ refl (next _ 5 _ refl (next _ 12 _ refl (next _ 13 _ refl refl)))))
+      one-first publishingReceive _ _ _ _ refl refl refl (next _ 5 _ refl (next _ 12 _ refl (next _ 13 _ refl refl)))
 
   publish-alike : (d e : List ℕ) → Alike d e → Receive.publishNumber s o d b ≡ Receive.publishNumber s o e b
   publish-alike d e a = rw (a .size)
@@ -139,15 +145,19 @@ module _ (s : State) (o b : List ℕ) where
       says _ _ _ _ (λ d. Receive.publishNumber s o d b) (λ c d. Receive.publishBy c s o d b)
       (λ d. refl) publish-one publish-alike publish-accepts publish-refuses
 
-  -- the number of a whole receive at once, and its outcome by it
-  abbrev pub whole-number : List ℕ → ℕ
-  whole-number d = receiveNumber (takeDecision (idle (length b) s) (s .own) (length o) d (length b) (getD b (s .own) 0)) (s .own) b
+  -- the number of a whole receive at once, but for 13 and with it, and its outcome by it
+  abbrev take-number : List ℕ → ℕ
+  take-number d = takeDecision (idle (length b) s) (s .own) (length o) d (length b) (getD b (s .own) 0)
 
-  take-one : (d : List ℕ) → oneOf wholeReceiving (takeDecision (idle (length b) s) (s .own) (length o) d (length b) (getD b (s .own) 0)) ≡ true
-  unfolding oneOf takeDecision firstNeeds receiveLookNeeds lookNeeds
+  abbrev pub whole-number : List ℕ → ℕ
+  whole-number d = receiveNumber (take-number d) (s .own) b
+
+  take-one : (d : List ℕ) → oneOf wholeReceiving (take-number d) ≡ true
+  unfolding oneOf takeDecision receiveLookNeeds lookNeeds
   take-one d =
       let next = one-need wholeReceiving in
-      next _ 1 _ refl (next _ 2 _ refl (next _ 3 _ refl (next _ 5 _ refl (next _ 6 _ refl (next _ 7 _ refl (next _ 8 _ refl (next _ 9 _ refl (next _ 11 _ refl refl))))))))
+      one-first wholeReceiving _ _ _ _ refl refl refl
+      (next _ 5 _ refl (next _ 6 _ refl (next _ 7 _ refl (next _ 8 _ refl (next _ 9 _ refl (next _ 11 _ refl refl))))))
 
   then-13 : (c : ℕ) → oneOf wholeReceiving c ≡ true → oneOf wholeReceiving (receiveNumber c (s .own) b) ≡ true
   unfolding oneOf receiveNumber

@@ -19,16 +19,21 @@ use Rattle.channel.specs.Operations.{sendLook, sendMove, sendPublish, receiveLo
 use Rattle.channel.specs.Send
 use Rattle.channel.specs.Receive
 use Rattle.refusals.specs.Order.{Row}
-use Rattle.refusals.specs.Table.{usedIn, openingRows, freeIn, operationRows, receiveLooks, row-1, row-2, row-3, row-5, row-13-whole, isWhole}
+use Rattle.refusals.specs.Table.{usedIn, openingRows, freeIn, operationRows, receiveLooks, row-1}
+use Rattle.refusals.specs.Table.{row-2, row-3, row-5, row-13-whole, isWhole}
 use Rattle.refusals.proofs.Lowest.{first-behind, firstOf, rising}
 
 -- a test of a chain, and the row that is given where it fails; the rest of the chain is asked where it holds
-link-under : (t : Bool) (r : Row) (rest : ℕ) (rs : List Row) → r .given ≡ not t → (t ≡ true → rest ≡ firstOf rs) → need t (r .number) rest ≡ firstOf (r ∷ rs)
+link-under :
+    (t : Bool) (r : Row) (rest : ℕ) (rs : List Row) → r .given ≡ not t → (t ≡ true → rest ≡ firstOf rs)
+    → need t (r .number) rest ≡ firstOf (r ∷ rs)
 unfolding need firstOf
 link-under true r rest rs g e = rw (g, e refl)
 link-under false r rest rs g e = rw g
 
-link : (t : Bool) (r : Row) (rest : ℕ) (rs : List Row) → r .given ≡ not t → rest ≡ firstOf rs → need t (r .number) rest ≡ firstOf (r ∷ rs)
+link :
+    (t : Bool) (r : Row) (rest : ℕ) (rs : List Row) → r .given ≡ not t → rest ≡ firstOf rs
+    → need t (r .number) rest ≡ firstOf (r ∷ rs)
 link t r rest rs g e = link-under t r rest rs g (λ _. e)
 
 pub done : 0 ≡ firstOf []
@@ -71,6 +76,9 @@ pass r rs n z =
     cases (r .given)
     (λ t. true-false (sym (eq-eqb (r .number) 0 (rw t at z)) ∙ n))
     (λ t. (t, rw t at z))
+
+past : (r : Row) (rs : List Row) → eqb (r .number) 0 ≡ false → firstOf (r ∷ rs) ≡ 0 → firstOf rs ≡ 0
+past r rs n z = pass r rs n z .1
 
 -- what 9 and 11 leave to 13
 whole-by : (u l : ℕ) → (not (eqb u 0) && ltb u l) ≡ false → eqb u 0 ≡ false → (not (eqb u 0) && leb l u) ≡ true
@@ -121,7 +129,17 @@ module _ (s : State) (o d b : List ℕ) where
       link _ _ _ _ refl (link _ _ _ _ refl (link _ _ _ _ refl (link _ _ _ _ (below (length o) 256)
       (link-under _ _ _ _ (below (s .moved) (s .len)) (λ t. link _ _ _ _ (rw t refl) done)))))
 
-  takes : takeDecision (idle (length b) s) (s .own) (length o) d (length b) (getD b (s .own) 0) ≡ firstOf (takeRows s o d b)
+  -- the number of a whole receive but for 13, by the chain and by the rows, and 13
+  abbrev chainTakes : ℕ
+  chainTakes = takeDecision (idle (length b) s) (s .own) (length o) d (length b) (getD b (s .own) 0)
+
+  abbrev rowsTake : ℕ
+  rowsTake = firstOf (takeRows s o d b)
+
+  abbrev formed : ℕ
+  formed = need (wellFormed (getD b (s .own) 0) (getD (messageAt (s .own) b) 1 0)) 13 0
+
+  takes : chainTakes ≡ rowsTake
   unfolding takeDecision firstNeeds receiveLookNeeds lookNeeds
   takes =
       let u : ℕ = usedIn d b in
@@ -130,21 +148,22 @@ module _ (s : State) (o d b : List ℕ) where
       (link _ _ _ _ (torn u (lengthAt (s .own) b)) (link _ _ _ _ (not-not (eqb u 0)) done))))))))
 
   -- a message that none of these refuses is whole
-  taken-whole : firstOf (takeRows s o d b) ≡ 0 → isWhole s d b ≡ true
+  taken-whole : rowsTake ≡ 0 → isWhole s d b ≡ true
   taken-whole z =
-      let after-8 = pass _ _ refl (pass _ _ refl (pass _ _ refl (pass _ _ refl (pass _ _ refl (pass _ _ refl (pass _ _ refl z .1) .1) .1) .1) .1) .1) .1 in
-      whole-by (usedIn d b) (lengthAt (s .own) b) (pass _ _ refl after-8 .0) (pass _ _ refl (pass _ _ refl after-8 .1) .0)
+      let after-3 = past _ _ refl (past _ _ refl (past _ _ refl z)) in
+      let after-8 = past _ _ refl (past _ _ refl (past _ _ refl (past _ _ refl after-3))) in
+      whole-by (usedIn d b) (lengthAt (s .own) b) (pass _ _ refl after-8 .0) (pass _ _ refl (past _ _ refl after-8) .0)
 
-  malformed : firstOf (takeRows s o d b) ≡ 0 → need (wellFormed (getD b (s .own) 0) (getD (messageAt (s .own) b) 1 0)) 13 0 ≡ firstOf (row-13-whole s d b ∷ [])
+  malformed : rowsTake ≡ 0 → formed ≡ firstOf (row-13-whole s d b ∷ [])
   malformed z = link _ _ _ _ (rw (taken-whole z) refl) done
 
-  then-malformed : cond (eqb (firstOf (takeRows s o d b)) 0) (need (wellFormed (getD b (s .own) 0) (getD (messageAt (s .own) b) 1 0)) 13 0) (firstOf (takeRows s o d b))
-      ≡ cond (eqb (firstOf (takeRows s o d b)) 0) (firstOf (row-13-whole s d b ∷ [])) (firstOf (takeRows s o d b))
+  then-malformed :
+      cond (eqb rowsTake 0) formed rowsTake ≡ cond (eqb rowsTake 0) (firstOf (row-13-whole s d b ∷ [])) rowsTake
   then-malformed =
-      cases (eqb (firstOf (takeRows s o d b)) 0)
-      (λ t. rw t (malformed (eqb-true (firstOf (takeRows s o d b)) 0 t)))
+      cases (eqb rowsTake 0)
+      (λ t. rw t (malformed (eqb-true rowsTake 0 t)))
       (λ t. rw t refl)
 
-  pub receives-whole : receiveNumber (takeDecision (idle (length b) s) (s .own) (length o) d (length b) (getD b (s .own) 0)) (s .own) b ≡ firstOf (operationRows (receiveWhole o) s d b)
+  pub receives-whole : receiveNumber chainTakes (s .own) b ≡ firstOf (operationRows (receiveWhole o) s d b)
   unfolding receiveNumber rising
   receives-whole = rw takes (then-malformed ∙ sym (first-behind 0 (takeRows s o d b) _ refl))

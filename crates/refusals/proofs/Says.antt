@@ -1,4 +1,5 @@
--- How an operation that takes its number first, and then acts by it, comes to leave what Demand1 asks of it. Assumes nothing.
+-- How an operation that takes its number first, and then acts by it, comes to leave what Demand1 asks of it. Assumes
+-- nothing.
 use Prim.Native.Nat.{ℕ}
 use mathlib.Core.Path.{_≡_, refl, sym, ap, _∙_, subst}
 use mathlib.Core.Bool.{true, false}
@@ -9,7 +10,8 @@ use Rattle.channel.specs.State.{State}
 use Rattle.channel.specs.Outcome.{Outcome}
 use Rattle.channel.specs.Operations.{Op, gives}
 use Rattle.message.proofs.Tests.{cases}
-use Rattle.refusals.specs.Left.{OperationRefused, ReservedStay, offsetPast, butReserved, descriptorLeft, output, reservedWords, stateLeft, unreservedWords}
+use Rattle.refusals.specs.Left.{OperationRefused, ReservedStay, offsetPast, butReserved, descriptorLeft}
+use Rattle.refusals.specs.Left.{output, reservedWords, stateLeft, unreservedWords}
 use Rattle.refusals.proofs.Laws.{Alike, Mild, alike, mild-leaves, oneOf}
 
 -- what is to be shown of an operation that has this number
@@ -73,12 +75,14 @@ module _ (may : List ℕ) (op : Op) (s : State) (b : List ℕ) (number : List �
     stays : (d : List ℕ) → reservedWords (gives op s d b .desc) ≡ reservedWords d
     stays d =
         cases (eqb (number d) 0)
-        (λ t. ap (λ (x : Outcome). reservedWords (x .desc)) (accepted d (eqb-true _ 0 t) ∙ accepts .same d) ∙ accepts .is-mild .rest d)
+        (λ t. ap (λ (x : Outcome). reservedWords (x .desc)) (accepted d (eqb-true _ 0 t) ∙ accepts .same d)
+        ∙ accepts .is-mild .rest d)
         (λ t. ap (λ (x : Outcome). reservedWords (x .desc)) (refused-by d t) ∙ mild-leaves (number d) (offsetPast op s b) .rest d)
 
     -- an outcome's descriptor is read by its front
     but-by : (c k : ℕ) (n : State) (p q r w : List ℕ) → unreservedWords p ≡ unreservedWords q
-        → butReserved (record { code = c; len = k; next = n; desc = p; buf = r; out = w }) ≡ butReserved (record { code = c; len = k; next = n; desc = q; buf = r; out = w })
+        → butReserved (record { code = c; len = k; next = n; desc = p; buf = r; out = w })
+        ≡ butReserved (record { code = c; len = k; next = n; desc = q; buf = r; out = w })
     but-by c k n p q r w e = ap (λ (x : List ℕ). record { code = c; len = k; next = n; desc = x; buf = r; out = w }) e
 
     alike-but : (d e : List ℕ) → Alike d e → butReserved (gives op s d b) ≡ butReserved (gives op s e b)
@@ -88,14 +92,17 @@ module _ (may : List ℕ) (op : Op) (s : State) (b : List ℕ) (number : List �
         let z : number e ≡ 0 = eqb-true _ 0 t in
         let y : number d ≡ 0 = heeds d e a ∙ z in
         ap butReserved (accepted d y ∙ accepts .same d)
-        ∙ but-by 0 (accepts .len) (accepts .next) (accepts .change d) (accepts .change e) (accepts .buf) (accepts .out) (accepts .is-mild .front d e (a .front))
+        ∙ but-by 0 (accepts .len) (accepts .next) (accepts .change d) (accepts .change e) (accepts .buf) (accepts .out)
+        (accepts .is-mild .front d e (a .front))
         ∙ sym (ap butReserved (accepted e z ∙ accepts .same e)))
         (λ t.
         let y : eqb (number d) 0 ≡ false = ap (λ (x : ℕ). eqb x 0) (heeds d e a) ∙ t in
         let p : gives op s d b ≡ refusal (number e) op s b d = refused-by d y ∙ ap (λ (x : ℕ). refusal x op s b d) (heeds d e a) in
+        let c = number e in
+        let past = offsetPast op s b in
         ap butReserved p
-        ∙ but-by (number e) 0 (stateLeft (number e) (offsetPast op s b) s) (descriptorLeft (number e) (offsetPast op s b) d) (descriptorLeft (number e) (offsetPast op s b) e) b (output op)
-        (mild-leaves (number e) (offsetPast op s b) .front d e (a .front))
+        ∙ but-by c 0 (stateLeft c past s) (descriptorLeft c past d) (descriptorLeft c past e) b (output op)
+        (mild-leaves c past .front d e (a .front))
         ∙ sym (ap butReserved (refused-by e t)))
 
     pub says : Says op s b number

@@ -16,32 +16,38 @@ use Rattle.channel.proofs.SendAtOnce.{send-at-once, sendOutcome}
 use Rattle.channel.specs.Steps.{nextPlace, pastMessage}
 use Rattle.channel.specs.Operations.{sendLook, sendMove, sendPublish, sendWhole}
 use Rattle.refusals.specs.Left.{stateLeft, descriptorLeft}
-use Rattle.refusals.proofs.Laws.{Alike, goingOn, lookingSend, mild-none, mild-set, not-one, one-need, oneOf}
+use Rattle.refusals.proofs.Laws.{Alike, goingOn, lookingSend, mild-none, mild-set}
+use Rattle.refusals.proofs.Laws.{not-one, one-first, one-need, oneOf}
 use Rattle.refusals.proofs.Says.{Accepts, Says, refusal, says}
 
 -- ---- which numbers
 
 one-look : (fits : Bool) (own : ℕ) (m d : List ℕ) (n : ℕ) → oneOf lookingSend (numberAt fits own m d n) ≡ true
-unfolding oneOf sendDecision firstNeeds sendLookNeeds lookNeeds
+unfolding oneOf sendDecision sendLookNeeds lookNeeds
 one-look fits own m d n =
     let next = one-need lookingSend in
-    next _ 1 _ refl (next _ 2 _ refl (next _ 3 _ refl (next _ 4 _ refl (next _ 6 _ refl (next _ 7 _ refl (next _ 8 _ refl (next _ 10 _ refl refl)))))))
+    one-first lookingSend _ _ _ _ refl refl refl
+    (next _ 4 _ refl (next _ 6 _ refl (next _ 7 _ refl (next _ 8 _ refl (next _ 10 _ refl refl)))))
 
 -- of a move or a publish: a test after 1 to 3
 pub one-on : (d n : ℕ) (fits test : Bool) → oneOf goingOn (firstNeeds d n fits (need test 12 0)) ≡ true
-unfolding oneOf firstNeeds
+unfolding oneOf
 one-on d n fits test =
     let next = one-need goingOn in
-    next _ 1 _ refl (next _ 2 _ refl (next _ 3 _ refl (next _ 12 _ refl refl)))
+    one-first goingOn _ _ _ _ refl refl refl (next _ 12 _ refl refl)
 
 -- ---- the steps
 
-look-alike : (fits : Bool) (own : ℕ) (m : List ℕ) (n : ℕ) (d e : List ℕ) → Alike d e → numberAt fits own m d n ≡ numberAt fits own m e n
+look-alike :
+    (fits : Bool) (own : ℕ) (m : List ℕ) (n : ℕ) (d e : List ℕ) → Alike d e
+    → numberAt fits own m d n ≡ numberAt fits own m e n
 unfolding sendDecision
 look-alike fits own m n d e a = rw (a .size, a .heads, a .tails, a .statuses)
 
 module _ (s : State) (m b : List ℕ) where
-  look-refuses : (c : ℕ) (d : List ℕ) → eqb c 0 ≡ false → oneOf lookingSend c ≡ true → Send.lookBy c s m d b ≡ refusal c (sendLook m) s b d
+  look-refuses :
+      (c : ℕ) (d : List ℕ) → eqb c 0 ≡ false → oneOf lookingSend c ≡ true
+      → Send.lookBy c s m d b ≡ refusal c (sendLook m) s b d
   unfolding Send.lookBy marked descriptorLeft stateLeft oneOf
   look-refuses c d z p = rw (z, not-one lookingSend c 13 p refl)
 
@@ -88,7 +94,8 @@ module _ (s : State) (b : List ℕ) where
   unfolding Send.moveNumber
   move-alike d e a = rw (a .size)
 
-  move-refuses : (c : ℕ) (d : List ℕ) → eqb c 0 ≡ false → oneOf goingOn c ≡ true → Send.moveBy c s d b ≡ refusal c sendMove s b d
+  move-refuses :
+      (c : ℕ) (d : List ℕ) → eqb c 0 ≡ false → oneOf goingOn c ≡ true → Send.moveBy c s d b ≡ refusal c sendMove s b d
   unfolding Send.moveBy descriptorLeft stateLeft oneOf
   move-refuses c d z p =
       rw (z, not-one goingOn c 7 p refl, not-one goingOn c 8 p refl, not-one goingOn c 9 p refl, not-one goingOn c 13 p refl)
@@ -119,7 +126,9 @@ module _ (s : State) (b : List ℕ) where
   unfolding Send.publishNumber
   publish-alike d e a = rw (a .size)
 
-  publish-refuses : (c : ℕ) (d : List ℕ) → eqb c 0 ≡ false → oneOf goingOn c ≡ true → Send.publishBy c s d b ≡ refusal c sendPublish s b d
+  publish-refuses :
+      (c : ℕ) (d : List ℕ) → eqb c 0 ≡ false → oneOf goingOn c ≡ true
+      → Send.publishBy c s d b ≡ refusal c sendPublish s b d
   unfolding Send.publishBy descriptorLeft stateLeft oneOf
   publish-refuses c d z p =
       rw (z, not-one goingOn c 7 p refl, not-one goingOn c 8 p refl, not-one goingOn c 9 p refl, not-one goingOn c 13 p refl)

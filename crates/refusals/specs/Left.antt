@@ -1,4 +1,5 @@
--- What a refusal of an operation or an opening leaves: document 01's column 'Leaves', and the sentences beside its table.
+-- What a refusal of an operation or an opening leaves: document 01's column 'Leaves', and the sentences beside its
+-- table.
 use Prim.Native.Nat.{ℕ, _+_, _%_}
 use mathlib.Core.Path.{_≡_}
 use mathlib.Core.Bool.{cond}
@@ -10,9 +11,11 @@ use Rattle.ring.specs.Ring.{HEAD, STATUS, overflow, underflow, mismatch}
 use Rattle.channel.specs.State.{State, idleAt}
 use Rattle.channel.specs.Outcome.{Outcome}
 use Rattle.channel.specs.Opening.{Opening}
-use Rattle.channel.specs.Operations.{Op, sendLook, sendMove, sendPublish, sendWhole, receiveLook, receiveMove, receivePublish, receiveWhole}
+use Rattle.channel.specs.Operations.{Op, sendLook, sendMove, sendPublish, sendWhole}
+use Rattle.channel.specs.Operations.{receiveLook, receiveMove, receivePublish, receiveWhole}
 
--- the column 'Leaves', of the descriptor: 7 'STATUS = 1', 8 'STATUS = 4', 9 'STATUS = 2', 13 'HEAD moved', to the offset past the message, else 'all'
+-- the column 'Leaves', of the descriptor: 7 'STATUS = 1', 8 'STATUS = 4', 9 'STATUS = 2', 13 'HEAD moved', to the
+-- offset past the message, else 'all'
 unfoldable pub descriptorLeft : ℕ → ℕ → List ℕ → List ℕ
 descriptorLeft number past d =
     cond (eqb number 7) (set d STATUS overflow)
@@ -23,7 +26,8 @@ descriptorLeft number past d =
 unfoldable pub stateLeft : ℕ → ℕ → State → State
 stateLeft number past s = cond (eqb number 13) (idleAt (s .n) past) s
 
--- the L of the message that a 13 passes over: of the copied one at a publish, of the one at the own head in a whole receive. No other operation answers 13
+-- the L of the message that a 13 passes over: of the copied one at a publish, of the one at the own head in a whole
+-- receive. No other operation answers 13
 abbrev pub passedOver : Op → State → List ℕ → ℕ
 passedOver (sendLook m) s b = 0
 passedOver sendMove s b = 0
@@ -79,8 +83,8 @@ abbrev pub butReserved : Outcome → Outcome
 butReserved x =
     record { code = x .code; len = x .len; next = x .next; desc = unreservedWords (x .desc); buf = x .buf; out = x .out }
 
--- 'Reserved words are neither judged nor changed', by accepted operations too: on a descriptor e that differs from d in them alone, all else comes out
--- the same
+-- 'Reserved words are neither judged nor changed', by accepted operations too: on a descriptor e that differs from d in
+-- them alone, all else comes out the same
 pub record ReservedStay (operation : List ℕ → Outcome) : Type 0 where
   pub unchanged : (d : List ℕ) → reservedWords (operation d .desc) ≡ reservedWords d
   pub unjudged :

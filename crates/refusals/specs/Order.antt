@@ -1,5 +1,5 @@
--- How numbers that say no are answered: rows whose case is given or not, the lowest number that applies, and tests one after another. It knows nothing of
--- the table itself.
+-- How numbers that say no are answered: rows whose case is given or not, the lowest number that applies, and tests one
+-- after another. It knows nothing of the table itself.
 use Prim.Native.Nat.{ℕ, _<_}
 use mathlib.Core.Path.{_≡_}
 use mathlib.Core.Logic.{_⊎_}
@@ -28,7 +28,8 @@ pub record Lowest (rs : List Row) (c : ℕ) : Type 0 where
   pub applies : Applies rs c
   pub no-lower : (k : ℕ) → k < c → Applies rs k → ⊥
 
--- the answer to tests that are made one after another: of the first to which any number applies the lowest, and 0 where none applies to any
+-- the answer to tests that are made one after another: of the first to which any number applies the lowest, and 0 where
+-- none applies to any
 unfoldable pub Answered : List (List Row) → ℕ → Type 0
 Answered [] c = c ≡ 0
 Answered (rs ∷ later) c = Lowest rs c ⊎ (NoneApplies rs × Answered later c)

@@ -1,5 +1,5 @@
--- The customer's demand 1: any input gets an answer, refusals are given exactly when document 01 says, with what the landed requests of document 02 add, in its
--- order, and leave what its table says.
+-- The customer's demand 1: any input gets an answer, refusals are given exactly when document 01 says, with what the
+-- landed requests of document 02 add, in its order, and leave what its table says.
 -- Each call, the number that it answers, and one statement, Demand1, over the rows of Table.antt.
 use Prim.Native.Nat.{ℕ}
 use mathlib.Core.Path.{_≡_}
@@ -19,23 +19,27 @@ use Rattle.firmware.specs.Version.{cssReading, hucReading, manifestReading}
 use Rattle.firmware.specs.declared.bytes.Located.{Located}
 use Rattle.firmware.specs.declared.css.Component.{Component}
 use Rattle.refusals.specs.Order.{Row, Answered, AllPass}
-use Rattle.refusals.specs.Table.{fits, row-4, row-14-fields, openingRows, operationRows, imageRows, directoryRows, seekTests, entryRows, manifestRows}
+use Rattle.refusals.specs.Table.{fits, row-4, row-14-fields, openingRows, operationRows}
+use Rattle.refusals.specs.Table.{imageRows, directoryRows, seekTests, entryRows, manifestRows}
 use Rattle.refusals.specs.Left.{OperationRefused, OpeningRefused, ReservedStay}
 
 -- ---- the calls that the paper names, and ours beside them, with all that each is given
 
--- With each stand the functions whose contracts cite its definition. Functions that a crate only lends to those above it (the decisions of `ring` and `channel`, and
--- whole calls at once) are held to the chains themselves. `guc` has these calls under C's names, and what it refuses beyond them (100, 101, an
--- origin that is no bit, and a field that a type does not have) is in guc/specs.
+-- With each stand the functions whose contracts cite its definition. Functions that a crate only lends to those above
+-- it (the decisions of `ring` and `channel`, and whole calls at once) are held to the chains themselves. `guc` has
+-- these calls under C's names, and what it refuses beyond them (100, 101, an origin that is no bit, and a field that a
+-- type does not have) is in guc/specs.
 pub data PublicCall : Type 0 where
   -- channel::open_channel, side::open_channel
   openCall : List ℕ → List ℕ → PublicCall
-  -- the steps and whole calls: Sender::look, ::store, ::publish, ::send; Receiver::look, ::copy, ::publish, ::receive; `side` has each in words
+  -- the steps and whole calls: Sender::look, ::store, ::publish, ::send; Receiver::look, ::copy, ::publish, ::receive;
+  -- `side` has each in words
   operationCall : Op → State → List ℕ → List ℕ → PublicCall
   -- message::pack, ::unpack
   packCall : Message → PublicCall
   unpackCall : List ℕ → PublicCall
-  -- an image: css_located (what it locates is handed out by css_part, ucode, rsa, modulus, exponent), css_answer, css_version
+  -- an image: css_located (what it locates is handed out by css_part, ucode, rsa, modulus, exponent), css_answer,
+  -- css_version
   imageLocationCall : Component → List ℕ → PublicCall
   imageAnswerCall : List ℕ → PublicCall
   imageVersionCall : List ℕ → PublicCall
@@ -45,7 +49,8 @@ pub data PublicCall : Type 0 where
   -- ours, for a list of all entries: cpd_directory, cpd_entry (cpd_name and cpd_has_name answer no number)
   directoryCall : List ℕ → PublicCall
   entryCall : List ℕ → ℕ → PublicCall
-  -- inside a directory: manifest_version; huc_located (handed out by huc_part, huc_ucode, huc_rsa, huc_modulus, huc_exponent), huc_answer, huc_version
+  -- inside a directory: manifest_version; huc_located (handed out by huc_part, huc_ucode, huc_rsa, huc_modulus,
+  -- huc_exponent), huc_answer, huc_version
   manifestVersionCall : List ℕ → PublicCall
   hucLocationCall : Component → List ℕ → PublicCall
   hucAnswerCall : List ℕ → PublicCall
@@ -69,8 +74,8 @@ numberOf (hucLocationCall which blob) = Inside.hucLocated which blob .code
 numberOf (hucAnswerCall blob) = Inside.hucAnswer blob .code
 numberOf (hucVersionCall blob) = hucReading blob .number
 
--- 'a part inside a directory is judged only after the directory's own numbers, 14 to 21, have passed', 22 among them since T-03: 'The manifest and CSS readings
--- inside a directory pass 22 on and promise it.'
+-- 'a part inside a directory is judged only after the directory's own numbers, 14 to 21, have passed', 22 among them
+-- since T-03: 'The manifest and CSS readings inside a directory pass 22 on and promise it.'
 abbrev pub manifestTests : List ℕ → List (List Row)
 manifestTests blob =
     seekTests blob Inside.manifestName ++ (manifestRows (Inside.partNamed blob Inside.manifestName) ∷ [])

@@ -1,6 +1,7 @@
--- Document 01, 'The numbers that say no', to be laid beside its table: a row for each number, in its order and words, then those that document 02 adds, then
--- which rows each call has.
--- A row speaks of the call's inputs alone, never of another row: which of those that apply is the answer, Order.antt and Refusals.antt say.
+-- Document 01, 'The numbers that say no', to be laid beside its table: a row for each number, in its order and words,
+-- then those that document 02 adds, then which rows each call has.
+-- A row speaks of the call's inputs alone, never of another row: which of those that apply is the answer, Order.antt
+-- and Refusals.antt say.
 use Prim.Native.Nat.{ℕ, _+_, _-_, _*_}
 use mathlib.Core.Bool.{Bool, not, _&&_, _||_}
 use mathlib.Core.List.{List, [], _∷_, _++_}
@@ -13,7 +14,8 @@ use Rattle.message.specs.declared.Message.{Message}
 use Rattle.ring.specs.Ring.{allowed, used, free, head, tail, status, good}
 use Rattle.ring.specs.AtOnce.{lengthAt, messageAt}
 use Rattle.channel.specs.State.{State, idle, activeSend, activeReceive, header, second}
-use Rattle.channel.specs.Operations.{Op, sendLook, sendMove, sendPublish, sendWhole, receiveLook, receiveMove, receivePublish, receiveWhole}
+use Rattle.channel.specs.Operations.{Op, sendLook, sendMove, sendPublish, sendWhole}
+use Rattle.channel.specs.Operations.{receiveLook, receiveMove, receivePublish, receiveWhole}
 use Rattle.firmware.specs.Css
 use Rattle.firmware.specs.Cpd
 use Rattle.refusals.specs.Order.{Row, row}
@@ -91,7 +93,8 @@ row-12-publish s = row 12 (ltb (s .moved) (s .len))
 abbrev pub row-12-move : State → Row
 row-12-move s = row 12 (leb (s .len) (s .moved))
 
--- 13 'received message whole but malformed': at a publish the copied one, all L dwords of it moved; in a whole receive the pending one at the own head
+-- 13 'received message whole but malformed': at a publish the copied one, all L dwords of it moved; in a whole receive
+-- the pending one at the own head
 abbrev pub row-13-publish : State → Row
 row-13-publish s = row 13 (leb (s .len) (s .moved) && not (wellFormed (header s) (second s)))
 
@@ -188,8 +191,8 @@ imageRows blob = row-15 128 blob ∷ row-16 blob ∷ row-17 blob ∷ []
 abbrev pub directoryRows : List ℕ → List Row
 directoryRows blob = row-15 20 blob ∷ row-18 blob ∷ row-19 blob ∷ []
 
--- the tests of a name sought, one after another: 22 is 'tested after 20 and before 21'. A number that is tested out of its order is a test of its own; 21 is of
--- the first entry that has the name, which by then is the only one
+-- the tests of a name sought, one after another: 22 is 'tested after 20 and before 21'. A number that is tested out of
+-- its order is a test of its own; 21 is of the first entry that has the name, which by then is the only one
 abbrev pub seekTests : List ℕ → List ℕ → List (List Row)
 seekTests blob name =
     (row-14-name name ∷ directoryRows blob ++ (row-20 blob name ∷ []))

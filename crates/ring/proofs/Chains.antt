@@ -49,7 +49,8 @@ pub allowed-high : (n : ℕ) → allowed n ≡ true → n ≤ 16384
 unfolding allowed
 allowed-high n e = leb-true n 16384 (search (and-l, and-r))
 
-module _ (d n : ℕ) (fits : Bool) (r x : ℕ) (n₁ : eqb 1 x ≡ false) (n₂ : eqb 2 x ≡ false) (n₃ : eqb 3 x ≡ false) (e : firstNeeds d n fits r ≡ x) where
+module _ (d n : ℕ) (fits : Bool) (r x : ℕ) (n₁ : eqb 1 x ≡ false) (n₂ : eqb 2 x ≡ false) (n₃ : eqb 3 x ≡ false)
+    (e : firstNeeds d n fits r ≡ x) where
   after-1 : need (allowed n) 2 (need fits 3 r) ≡ x
   unfolding firstNeeds
   after-1 = passed-rest (eqb d 16) 1 (need (allowed n) 2 (need fits 3 r)) x n₁ e
@@ -74,8 +75,8 @@ module _ (d n : ℕ) (fits : Bool) (r x : ℕ) (n₁ : eqb 1 x ≡ false) (n₂ 
   pub entered-rest : r ≡ x
   entered-rest = passed-rest fits 3 r x n₃ after-2
 
--- what a look judges before the descriptor's words, with a last test of its own: past it the rest of the chain says the number, and a number there is
--- the chain's
+-- what a look judges before the descriptor's words, with a last test of its own: past it the rest of the chain says the
+-- number, and a number there is the chain's
 module _ (d n : ℕ) (fits t : Bool) (k rest : ℕ) where
   pub first-needs-none : eqb k 0 ≡ false → firstNeeds d n fits (need t k 0) ≡ 0 → firstNeeds d n fits (need t k rest) ≡ rest
   unfolding firstNeeds need
@@ -83,18 +84,23 @@ module _ (d n : ℕ) (fits t : Bool) (k rest : ℕ) where
       cases (eqb d 16)
       (λ t₁. cases (allowed n)
       (λ t₂. cases fits
-      (λ t₃. cases t (λ t₄. rw (t₁, t₂, t₃, t₄)) (λ t₄. true-false (sym (eq-eqb k 0 (rw (t₁, t₂, t₃, t₄) at e)) ∙ q)))
+      (λ t₃. cases t
+      (λ t₄. rw (t₁, t₂, t₃, t₄))
+      (λ t₄. true-false (sym (eq-eqb k 0 (rw (t₁, t₂, t₃, t₄) at e)) ∙ q)))
       (λ t₃. true-false (sym (eq-eqb 3 0 (rw (t₁, t₂, t₃) at e)))))
       (λ t₂. true-false (sym (eq-eqb 2 0 (rw (t₁, t₂) at e)))))
       (λ t₁. true-false (sym (eq-eqb 1 0 (rw t₁ at e))))
 
-  pub first-needs-one : (c : ℕ) → firstNeeds d n fits (need t k 0) ≡ c → (c ≡ 0 → ⊥) → firstNeeds d n fits (need t k rest) ≡ c
+  pub first-needs-one :
+      (c : ℕ) → firstNeeds d n fits (need t k 0) ≡ c → (c ≡ 0 → ⊥) → firstNeeds d n fits (need t k rest) ≡ c
   unfolding firstNeeds need
   first-needs-one c e z =
       cases (eqb d 16)
       (λ t₁. cases (allowed n)
       (λ t₂. cases fits
-      (λ t₃. cases t (λ t₄. absurd (z (sym (rw (t₁, t₂, t₃, t₄) at e)))) (λ t₄. rw (t₁, t₂, t₃, t₄) (rw (t₁, t₂, t₃, t₄) at e)))
+      (λ t₃. cases t
+      (λ t₄. absurd (z (sym (rw (t₁, t₂, t₃, t₄) at e))))
+      (λ t₄. rw (t₁, t₂, t₃, t₄) (rw (t₁, t₂, t₃, t₄) at e)))
       (λ t₃. rw (t₁, t₂, t₃) (rw (t₁, t₂, t₃) at e)))
       (λ t₂. rw (t₁, t₂) (rw (t₁, t₂) at e)))
       (λ t₁. rw t₁ (rw t₁ at e))

@@ -69,7 +69,9 @@ module _ (n own word status hd tl : ℕ) where
   look-needs-none f rest = simp (f .good, lt-ltb hd n (f .head), lt-ltb tl n (f .tail), eq-eqb own word (f .same))
 
   -- and where one of them refuses, it is, whatever the rest
-  pub look-needs-one : (rest c : ℕ) → lookNeeds n own word status hd tl 0 ≡ c → (c ≡ 0 → ⊥) → lookNeeds n own word status hd tl rest ≡ c
+  pub look-needs-one :
+      (rest c : ℕ) → lookNeeds n own word status hd tl 0 ≡ c → (c ≡ 0 → ⊥)
+      → lookNeeds n own word status hd tl rest ≡ c
   unfolding need lookNeeds
   look-needs-one rest c e z =
       cases (eqb status 0)
@@ -78,7 +80,8 @@ module _ (n own word status hd tl : ℕ) where
       (λ b. rw (a, b) (rw (a, b) at e)))
       (λ a. rw a (rw a at e))
 
--- a receive's look reads the header where the descriptor's number is 0: else that number is its answer, whatever the header
+-- a receive's look reads the header where the descriptor's number is 0: else that number is its answer, whatever the
+-- header
 module _ (n own st hd tl h : ℕ) where
   pub by-descriptor : (c : ℕ) → pendingNumber n own st hd tl ≡ c → (c ≡ 0 → ⊥) → receiveLookNeeds n own st hd tl h ≡ c
   unfolding receiveLookNeeds pendingNumber need lookNeeds

@@ -1,4 +1,5 @@
--- What the numbers of a receive say: where they accept, and the three answers of a whole receive at once. Assumes nothing.
+-- What the numbers of a receive say: where they accept, and the three answers of a whole receive at once. Assumes
+-- nothing.
 use Prim.Native.Nat.{ℕ, suc, _+_, _-_, _%_, _≤_, _<_}
 use mathlib.Core.Path.{_≡_, refl, sym, ap, _∙_}
 use mathlib.Core.Bool.{Bool, true, false, not, _||_, cond}
@@ -63,7 +64,11 @@ module _ (n own st hd tl h : ℕ) (e : receiveLookNeeds n own st hd tl h ≡ 0) 
   look-accepted =
       let f = look-needs-met n own hd st hd tl after-8 same-needs in
       let l = passed (eqb (used n hd tl) 0 || leb (totalLength h) (used n hd tl)) 9 _ 0 refl after in
-      record { own-head = f .same; below = omega (arith, f .same, f .head); whole = leb-true (totalLength h) (used n hd tl) (rw in-use at l) }
+      record {
+        own-head = f .same;
+        below = omega (arith, f .same, f .head);
+        whole = leb-true (totalLength h) (used n hd tl) (rw in-use at l);
+      }
 
 -- L is from 1 to 256
 pub total-low : (h : ℕ) → 1 ≤ totalLength h
@@ -119,7 +124,9 @@ module _ (fits : Bool) (own output : ℕ) (d : List ℕ) (n h : ℕ) where
         }
 
 -- a message of at least two dwords, taken apart
-pub window-first-two : (b : List ℕ) (n own l : ℕ) → 2 ≤ l → window b n own l ≡ getD b (own % n) 0 ∷ getD b ((own + 1) % n) 0 ∷ window b n (own + 2) (l - 2)
+pub window-first-two :
+    (b : List ℕ) (n own l : ℕ) → 2 ≤ l
+    → window b n own l ≡ getD b (own % n) 0 ∷ getD b ((own + 1) % n) 0 ∷ window b n (own + 2) (l - 2)
 unfolding window
 window-first-two b n own l h =
     let e : l ≡ suc (suc (l - 2)) = omega arith in
@@ -139,14 +146,20 @@ laid-message b n own l h s o below l₂ eh es =
 
 -- the three answers of a whole receive but for its end
 module _ (fits : Bool) (own : ℕ) (o d b : List ℕ) where
-  pub taken-refused : (c : ℕ) → takeDecision fits own (length o) d (length b) (getD b own 0) ≡ c → (c ≡ 0 → ⊥) → TakenBy (record { code = c; len = 0; own = own }) (takeDecision fits own (length o) d (length b) (getD b own 0)) own b o o
+  -- the number of its look
+  abbrev decided : ℕ
+  decided = takeDecision fits own (length o) d (length b) (getD b own 0)
+
+  pub taken-refused :
+      (c : ℕ) → decided ≡ c → (c ≡ 0 → ⊥) → TakenBy (record { code = c; len = 0; own = own }) decided own b o o
   unfolding receiveNumber
   taken-refused c e n =
       let z : eqb c 0 ≡ false = ne-eqb c 0 n in
       let t : eqb c 13 ≡ false = ap (λ (x : ℕ). eqb x 13) (sym e) ∙ take-not-13 fits own (length o) d (length b) (getD b own 0) in
       record { code = rw (e, z); len = rw z; own-head = rw (z, t); small = λ q. absurd (n (sym e ∙ q)); output = rw z }
 
-  module _ (h s l : ℕ) (eh : h ≡ getD b own 0) (el : l ≡ totalLength h) (es : s ≡ getD (window b (length b) own l) 1 0) (e : takeDecision fits own (length o) d (length b) (getD b own 0) ≡ 0) where
+  module _ (h s l : ℕ) (eh : h ≡ getD b own 0) (el : l ≡ totalLength h)
+      (es : s ≡ getD (window b (length b) own l) 1 0) (e : decided ≡ 0) where
     formed-same : wellFormed (getD b own 0) (getD (messageAt own b) 1 0) ≡ wellFormed h s
     formed-same = rw (es, el, eh)
 
@@ -154,34 +167,41 @@ module _ (fits : Bool) (own : ℕ) (o d b : List ℕ) where
     length-same = rw (el, eh)
 
     pub taken-formed :
-        (x : ℕ) (after : List ℕ) → wellFormed h s ≡ true → x ≡ (own + l) % length b → x < 16384 → after ≡ window b (length b) own l ++ drop l o
-        → TakenBy (record { code = 0; len = l; own = x }) (takeDecision fits own (length o) d (length b) (getD b own 0)) own b o after
+        (x : ℕ) (after : List ℕ) → wellFormed h s ≡ true → x ≡ (own + l) % length b → x < 16384
+        → after ≡ window b (length b) own l ++ drop l o
+        → TakenBy (record { code = 0; len = l; own = x }) decided own b o after
     unfolding receiveNumber need
     taken-formed x after f p q w =
-        record { code = rw (e, formed-same, f); len = length-same; own-head = rw (← length-same) p; small = λ _. q; output = rw (← length-same) w }
+        record {
+          code = rw (e, formed-same, f);
+          len = length-same;
+          own-head = rw (← length-same) p;
+          small = λ _. q;
+          output = rw (← length-same) w;
+        }
 
     pub taken-malformed :
         (x : ℕ) → wellFormed h s ≡ false → x ≡ (own + l) % length b → x < 16384
-        → TakenBy (record { code = 13; len = 0; own = x }) (takeDecision fits own (length o) d (length b) (getD b own 0)) own b o o
+        → TakenBy (record { code = 13; len = 0; own = x }) decided own b o o
     unfolding receiveNumber need
     taken-malformed x f p q =
         record { code = rw (e, formed-same, f); len = refl; own-head = rw (← length-same) p; small = λ _. q; output = refl }
 
   -- 0 and 13 come after 1 to 11 have passed
-  pub taken-zero : (c : ℕ) → c ≡ receiveNumber (takeDecision fits own (length o) d (length b) (getD b own 0)) own b → (eqb c 0 || eqb c 13) ≡ true → takeDecision fits own (length o) d (length b) (getD b own 0) ≡ 0
+  pub taken-zero : (c : ℕ) → c ≡ receiveNumber decided own b → (eqb c 0 || eqb c 13) ≡ true → decided ≡ 0
   unfolding receiveNumber
   taken-zero c e z =
-      let n : ℕ = takeDecision fits own (length o) d (length b) (getD b own 0) in
-      cases (eqb n 0) (λ t. eqb-true n 0 t)
+      cases (eqb decided 0) (λ t. eqb-true decided 0 t)
       (λ t.
-      let q : c ≡ n = e ∙ rw t in
-      let w : eqb n 13 ≡ false = take-not-13 fits own (length o) d (length b) (getD b own 0) in
+      let q : c ≡ decided = e ∙ rw t in
+      let w : eqb decided 13 ≡ false = take-not-13 fits own (length o) d (length b) (getD b own 0) in
       true-false (sym z ∙ rw (q, t, w)))
 
   -- and with its end, the whole receive at once
   pub whole-taken :
-      (r : WholeEnd) (d′ o′ : List ℕ) → TakenBy r (takeDecision fits own (length o) d (length b) (getD b own 0)) own b o o′
-      → d′ ≡ cond (eqb (r .code) 0 || eqb (r .code) 13) (set d HEAD (r .own)) (marked (r .code) d) → wholeEnd r d′ b o′ ≡ wholeReceive fits own o d b
+      (r : WholeEnd) (d′ o′ : List ℕ) → TakenBy r decided own b o o′
+      → d′ ≡ cond (eqb (r .code) 0 || eqb (r .code) 13) (set d HEAD (r .own)) (marked (r .code) d)
+      → wholeEnd r d′ b o′ ≡ wholeReceive fits own o d b
   unfolding receiveBy
   whole-taken r d′ o′ t g =
       cases (eqb (r .code) 0 || eqb (r .code) 13)

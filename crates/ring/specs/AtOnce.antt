@@ -1,5 +1,6 @@
--- Whole calls at once, on plain numbers and lists: what the steps of a whole call come to. The code of whole calls is held to these, and
--- that they are the steps one after another is proved in the crate above (channel/proofs/SendAtOnce.antt, ReceiveAtOnce.antt).
+-- Whole calls at once, on plain numbers and lists: what the steps of a whole call come to. The code of whole calls is
+-- held to these, and that they are the steps one after another is proved in the crate above
+-- (channel/proofs/SendAtOnce.antt, ReceiveAtOnce.antt).
 use Prim.Native.Nat.{ℕ, _+_, _%_}
 use mathlib.Core.Bool.{Bool, _||_, cond}
 use mathlib.Core.List.{List, [], _++_}
@@ -55,7 +56,8 @@ judgedHeader c own b = record { code = c; len = cond (eqb c 0) (lengthAt own b) 
 unfoldable pub receiveNumber : ℕ → ℕ → List ℕ → ℕ
 receiveNumber c own b = cond (eqb c 0) (need (wellFormed (getD b own 0) (getD (messageAt own b) 1 0)) 13 0) c
 
--- a whole receive: where the message is whole HEAD goes past it, and where it is well formed it is laid at the front of the output
+-- a whole receive: where the message is whole HEAD goes past it, and where it is well formed it is laid at the front of
+-- the output
 unfoldable pub receiveBy : ℕ → ℕ → List ℕ → List ℕ → List ℕ → AtOnce
 receiveBy c own o d b =
     record {

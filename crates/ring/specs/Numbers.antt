@@ -1,5 +1,6 @@
--- The numbers that say no (document 01), as chains in the order of the table: 'The lowest number that applies is the answer'.
--- What a look decides, it decides on numbers alone: N, the own offset, STATUS, HEAD, TAIL, and the length or the header.
+-- The numbers that say no (document 01), as chains in the order of the table: 'The lowest number that applies is the
+-- answer'. What a look decides, it decides on numbers alone: N, the own offset, STATUS, HEAD, TAIL, and the length or
+-- the header.
 use Prim.Native.Nat.{ℕ}
 use mathlib.Core.Bool.{Bool, true, false, not, _&&_, _||_, cond}
 use mathlib.Core.List.{List}
@@ -13,13 +14,14 @@ unfoldable pub need : Bool → ℕ → ℕ → ℕ
 need true number rest = rest
 need false number rest = number
 
--- what every step and whole call needs first: 1 'descriptor is not 16 dwords', 2 'N not allowed', 3 'state doesn't fit', with the lengths of the
--- descriptor and the buffer
+-- what every step and whole call needs first: 1 'descriptor is not 16 dwords', 2 'N not allowed', 3 'state doesn't
+-- fit', with the lengths of the descriptor and the buffer
 unfoldable pub firstNeeds : ℕ → ℕ → Bool → ℕ → ℕ
 firstNeeds descriptor n fits rest = need (eqb descriptor 16) 1 (need (allowed n) 2 (need fits 3 rest))
 
--- what every look needs of the descriptor: 6 'look finds STATUS not 0', 7 'look finds HEAD or TAIL at least N', 8 'sender's own tail is not TAIL, or
--- receiver's own head is not HEAD', with the descriptor's word that is to be the own offset
+-- what every look needs of the descriptor: 6 'look finds STATUS not 0', 7 'look finds HEAD or TAIL at least N', 8
+-- 'sender's own tail is not TAIL, or receiver's own head is not HEAD', with the descriptor's word that is to be the own
+-- offset
 unfoldable pub lookNeeds : ℕ → ℕ → ℕ → ℕ → ℕ → ℕ → ℕ → ℕ
 lookNeeds n own word status hd tl rest =
     need (eqb status good) 6 (need (ltb hd n && ltb tl n) 7 (need (eqb own word) 8 rest))
@@ -28,14 +30,15 @@ lookNeeds n own word status hd tl rest =
 unfoldable pub sendLookNeeds : ℕ → ℕ → ℕ → ℕ → ℕ → ℕ → ℕ
 sendLookNeeds n own len status hd tl = lookNeeds n own tl status hd tl (need (leb len (free n hd tl)) 10 0)
 
--- what a receive's look needs of it and of the header: these, then 9 'ring not empty and L exceeds used', then 11 'nothing pending'
+-- what a receive's look needs of it and of the header: these, then 9 'ring not empty and L exceeds used', then 11
+-- 'nothing pending'
 unfoldable pub receiveLookNeeds : ℕ → ℕ → ℕ → ℕ → ℕ → ℕ → ℕ
 receiveLookNeeds n own status hd tl header =
     lookNeeds n own hd status hd tl
     (need (eqb (used n hd tl) 0 || leb (totalLength header) (used n hd tl)) 9 (need (not (eqb (used n hd tl) 0)) 11 0))
 
--- the number of a send's look: 1, 2 and 3, then 4 'message to send .. is malformed', then what the look needs. With whether the state fits,
--- the own tail, the message's length and first two dwords, the descriptor and N
+-- the number of a send's look: 1, 2 and 3, then 4 'message to send .. is malformed', then what the look needs. With
+-- whether the state fits, the own tail, the message's length and first two dwords, the descriptor and N
 unfoldable pub sendDecision : Bool → ℕ → ℕ → ℕ → ℕ → List ℕ → ℕ → ℕ
 sendDecision fits own len header word d n =
     firstNeeds (length d) n fits (need (startsMessage len header word) 4 (sendLookNeeds n own len (status d) (head d) (tail d)))

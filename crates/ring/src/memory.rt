@@ -46,7 +46,8 @@ pub fn publish_tail(desc: &mut [u32], tail: u32)
     put(desc, TAIL, tail);
 }
 
-// Publishes a head. It is lent neither ring nor output: who publishes has read, or passes over a message that was refused.
+// Publishes a head. It is lent neither ring nor output: who publishes has read, or passes over a message that was
+// refused.
 pub fn publish_head(desc: &mut [u32], head: u32)
     ensures { λ _. ⌜ now (desc .exit) ≡ set (now (desc .entry)) HEAD head ⌝ }
 {

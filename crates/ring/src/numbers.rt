@@ -26,8 +26,8 @@ pub fn allowed(n: usize) -> bool
     (n % N_UNIT == 0) & (N_UNIT <= n) & (n <= N_MAX)
 }
 
-// 1, 2 and 3, which every step judges first, with the lengths of the descriptor and the buffer. Each is a branch, so that what follows it knows that it
-// passed: the compiler then leaves out what it would only test again.
+// 1, 2 and 3, which every step judges first, with the lengths of the descriptor and the buffer. Each is a branch, so
+// that what follows it knows that it passed: the compiler then leaves out what it would only test again.
 pub fn first_needs(descriptor: usize, n: usize, fits: bool, rest: u32) -> u32
     ensures { λ r. ⌜ r ≡ firstNeeds descriptor n fits rest ⌝ }
 {
@@ -55,7 +55,8 @@ fn used(n: usize, head: usize, tail: usize) -> usize
     }
 }
 
-// What every look needs of the descriptor: 6, 7 or 8, or 0 for none of them. `word` is the descriptor's word that is to be the own offset.
+// What every look needs of the descriptor: 6, 7 or 8, or 0 for none of them. `word` is the descriptor's word that is to
+// be the own offset.
 fn look_needs(n: usize, own: usize, word: usize, status: usize, head: usize, tail: usize) -> u32
     ensures { λ r. ⌜ r ≡ lookNeeds n own word status head tail 0 ⌝ }
 {

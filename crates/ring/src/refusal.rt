@@ -1,5 +1,5 @@
-// The numbers that say no, of a channel's calls: each with document 01's words for when it is given. The names are those of include/guc.h. 12 is of the
-// steps, which stand in `channel`.
+// The numbers that say no, of a channel's calls: each with document 01's words for when it is given. The names are
+// those of include/guc.h. 12 is of the steps, which stand in `channel`.
 
 // 'descriptor is not 16 dwords'
 pub const BAD_DESCRIPTOR: u32 = 1;

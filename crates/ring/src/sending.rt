@@ -1,5 +1,6 @@
-// A send's look and a whole send, on plain numbers. The message's first two dwords are read once: they are judged as numbers, and those numbers are
-// what is stored. What decides is lent no message, what stores no descriptor, what publishes no ring.
+// A send's look and a whole send, on plain numbers. The message's first two dwords are read once: they are judged as
+// numbers, and those numbers are what is stored. What decides is lent no message, what stores no descriptor, what
+// publishes no ring.
 ghost use mathlib.Core.Path.{_≡_};
 ghost use mathlib.Core.Bool.{cond};
 ghost use mathlib.Core.List.{[]};
@@ -53,10 +54,12 @@ pub fn send_decision(
     send_look_needs(n, own, len, status, head, tail)
 }
 
-// A whole send but for its end: decides, and stores the message where it is accepted. The descriptor is lent to be read: while the message is stored
-// nobody can publish.
+// A whole send but for its end: decides, and stores the message where it is accepted. The descriptor is lent to be
+// read: while the message is stored nobody can publish.
 fn place_message(fits: bool, own: usize, desc: &[u32], buf: &mut [u32], msg: &[u32]) -> WholeEnd
-    ensures { λ r. ⌜ PlacedBy r (numberAt fits own (now (msg .entry)) (now (desc .entry)) (length (now (buf .entry)))) own (now (msg .entry)) (now (buf .entry)) (now (buf .exit)) ⌝ }
+    ensures { λ r.
+        ⌜ PlacedBy r (numberAt fits own (now (msg .entry)) (now (desc .entry)) (length (now (buf .entry))))
+        own (now (msg .entry)) (now (buf .entry)) (now (buf .exit)) ⌝ }
 {
     let header = dword_at(msg, 0);
     let word = dword_at(msg, 1);
@@ -79,7 +82,10 @@ fn place_message(fits: bool, own: usize, desc: &[u32], buf: &mut [u32], msg: &[u
 // The end of a whole send: publishes the tail, or marks STATUS. It is lent no ring.
 fn end_send(desc: &mut [u32], end: WholeEnd)
     requires { ⌜ (end .code ≡ 0 → end .own < 2 ^ 32) ⌝ }
-    ensures { λ _. ⌜ now (desc .exit) ≡ cond (eqb (end .code) 0) (set (now (desc .entry)) TAIL (end .own)) (marked (end .code) (now (desc .entry))) ⌝ }
+    ensures { λ _.
+        ⌜ now (desc .exit)
+        ≡ cond (eqb (end .code) 0) (set (now (desc .entry)) TAIL (end .own))
+        (marked (end .code) (now (desc .entry))) ⌝ }
 {
     if end.code == 0 {
         publish_tail(desc, end.own as u32);
@@ -88,7 +94,8 @@ fn end_send(desc: &mut [u32], end: WholeEnd)
     mark(desc, end.code);
 }
 
-// A whole send: with whether the sender's state fits as idle, and its own tail. What ends it needs what placing the message answered, so TAIL comes last.
+// A whole send: with whether the sender's state fits as idle, and its own tail. What ends it needs what placing the
+// message answered, so TAIL comes last.
 pub fn whole_send(
     fits: bool,
     own: usize,
@@ -96,7 +103,9 @@ pub fn whole_send(
     buf: &mut [u32],
     msg: &[u32],
 ) -> WholeEnd
-    ensures { λ r. ⌜ wholeEnd r (now (desc .exit)) (now (buf .exit)) [] ≡ wholeSend fits own (now (msg .entry)) (now (desc .entry)) (now (buf .entry)) ⌝ }
+    ensures { λ r.
+        ⌜ wholeEnd r (now (desc .exit)) (now (buf .exit)) []
+        ≡ wholeSend fits own (now (msg .entry)) (now (desc .entry)) (now (buf .entry)) ⌝ }
 {
     let end = place_message(fits, own, &desc[..], buf, msg);
     end_send(desc, end);

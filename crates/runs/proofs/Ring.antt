@@ -52,7 +52,9 @@ window-append b n i zero k =
 window-append b n i (suc j) k =
     let e : suc j + k ≡ suc (j + k) = omega arith in
     let f : suc i + j ≡ i + suc j = omega arith in
-    ap (λ (x : ℕ). window b n i x) e ∙ ap (λ (l : List ℕ). getD b (i % n) 0 ∷ l) (window-append b n (suc i) j k ∙ ap (λ (x : ℕ). window b n (suc i) j ++ window b n x k) f)
+    ap (λ (x : ℕ). window b n i x) e
+    ∙ ap (λ (l : List ℕ). getD b (i % n) 0 ∷ l)
+    (window-append b n (suc i) j k ∙ ap (λ (x : ℕ). window b n (suc i) j ++ window b n x k) f)
 
 pub window-at : (b : List ℕ) (n i k j : ℕ) → j < k → getD (window b n i k) j 0 ≡ getD b ((i + j) % n) 0
 unfolding window
@@ -61,11 +63,14 @@ window-at b n i (suc k) zero h = ap (λ (x : ℕ). getD b (x % n) 0) (omega arit
 window-at b n i (suc k) (suc j) h = window-at b n (suc i) k j (omega arith) ∙ ap (λ (x : ℕ). getD b (x % n) 0) (omega arith)
 
 -- a store elsewhere
-pub window-set : (b : List ℕ) (n i k p v : ℕ) → ((t : ℕ) → i ≤ t → t < i + k → t % n ≢ p) → window (set b p v) n i k ≡ window b n i k
+pub window-set :
+    (b : List ℕ) (n i k p v : ℕ) → ((t : ℕ) → i ≤ t → t < i + k → t % n ≢ p)
+    → window (set b p v) n i k ≡ window b n i k
 unfolding window
 window-set b n i zero p v h = refl
 window-set b n i (suc k) p v h =
-    λ t. getD-set-other b p (i % n) v 0 (h i (omega arith) (omega arith)) t ∷ window-set b n (suc i) k p v (λ u x y. h u (omega arith) (omega arith)) t
+    λ t. getD-set-other b p (i % n) v 0 (h i (omega arith) (omega arith)) t
+    ∷ window-set b n (suc i) k p v (λ u x y. h u (omega arith) (omega arith)) t
 
 pub window-mod : (b : List ℕ) (n i j k : ℕ) → i % n ≡ j % n → window b n i k ≡ window b n j k
 unfolding window
@@ -75,7 +80,9 @@ window-mod b n i j (suc k) e =
 
 -- ---- dwords stored one after another from place i on
 
-pub stored-snoc : (b : List ℕ) (n i : ℕ) (xs : List ℕ) (x : ℕ) → stored b n i (xs ++ (x ∷ [])) ≡ set (stored b n i xs) ((i + length xs) % n) x
+pub stored-snoc :
+    (b : List ℕ) (n i : ℕ) (xs : List ℕ) (x : ℕ)
+    → stored b n i (xs ++ (x ∷ [])) ≡ set (stored b n i xs) ((i + length xs) % n) x
 unfolding stored
 stored-snoc b n i [] x = ap (λ (k : ℕ). set b (k % n) x) (omega arith)
 stored-snoc b n i (y ∷ ys) x =
@@ -88,11 +95,14 @@ stored-mod b n i j [] e = refl
 stored-mod b n i j (x ∷ xs) e =
     rw e (stored-mod (set b (j % n) x) n (suc i) (suc j) xs (suc-mod i n ∙ ap (λ k. suc k % n) e ∙ sym (suc-mod j n)))
 
-pub stored-other : (b : List ℕ) (n i : ℕ) (xs : List ℕ) (j : ℕ) → ((t : ℕ) → i ≤ t → t < i + length xs → j ≢ t % n) → getD (stored b n i xs) j 0 ≡ getD b j 0
+pub stored-other :
+    (b : List ℕ) (n i : ℕ) (xs : List ℕ) (j : ℕ) → ((t : ℕ) → i ≤ t → t < i + length xs → j ≢ t % n)
+    → getD (stored b n i xs) j 0 ≡ getD b j 0
 unfolding stored
 stored-other b n i [] j h = refl
 stored-other b n i (x ∷ xs) j h =
-    stored-other (set b (i % n) x) n (suc i) xs j (λ t u w. h t (omega arith) (omega arith)) ∙ getD-set-other b (i % n) j x 0 (h i (omega arith) (omega arith))
+    stored-other (set b (i % n) x) n (suc i) xs j (λ t u w. h t (omega arith) (omega arith))
+    ∙ getD-set-other b (i % n) j x 0 (h i (omega arith) (omega arith))
 
 pub stored-length : (b : List ℕ) (n i : ℕ) (xs : List ℕ) → length (stored b n i xs) ≡ length b
 unfolding stored

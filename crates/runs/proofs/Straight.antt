@@ -1,4 +1,5 @@
--- Dwords of a buffer: what a loop over them has after a turn, and what goes around the end as what is straight. Assumes nothing.
+-- Dwords of a buffer: what a loop over them has after a turn, and what goes around the end as what is straight. Assumes
+-- nothing.
 use Prim.Native.Nat.{ℕ, zero, suc, _+_, _-_, _%_, _≤_, _<_}
 use mathlib.Core.Path.{_≡_, refl, sym, ap, _∙_}
 use mathlib.Core.Bool.{true, false, _&&_}
@@ -16,7 +17,9 @@ use Rattle.runs.specs.Buffer.{window, stored, storedAt, filledFrom, laid
 use Rattle.runs.proofs.Ring.{window-append, window-mod, stored-mod}
 
 -- a turn of the loop that copies src to the front of dst
-pub copied-more : (dst src : List ℕ) (i : ℕ) → i < length src → i < length dst → set (take i src ++ drop i dst) i (getD src i 0) ≡ take (i + 1) src ++ drop (i + 1) dst
+pub copied-more :
+    (dst src : List ℕ) (i : ℕ) → i < length src → i < length dst
+    → set (take i src ++ drop i dst) i (getD src i 0) ≡ take (i + 1) src ++ drop (i + 1) dst
 copied-more dst src i h k =
     rw (add-one, drop-cons dst i 0, take-suc src i 0, append-snoc)
     (set-at (take i src) _ _ _ _ (length-take-le i src (omega arith)))
@@ -32,7 +35,9 @@ pub to-end : (k : ℕ) (xs : List ℕ) → take (length xs - k) (drop k xs) ≡ 
 to-end k xs = take-all (length xs - k) (drop k xs) (simp length-drop (omega arith))
 
 -- xs copied to the front of the part of k dwords from place a on
-pub put-front : (a k : ℕ) (b xs : List ℕ) → length xs ≤ k → a + k ≤ length b → putMid a k b (xs ++ drop (length xs) (midOf a k b)) ≡ take a b ++ (xs ++ drop (a + length xs) b)
+pub put-front :
+    (a k : ℕ) (b xs : List ℕ) → length xs ≤ k → a + k ≤ length b
+    → putMid a k b (xs ++ drop (length xs) (midOf a k b)) ≡ take a b ++ (xs ++ drop (a + length xs) b)
 put-front a k b xs h l =
     let m : length xs ≤ length (take k (drop a b)) = simp (length-take, length-drop) (omega arith) in
     rw (append-assoc, ← drop-append-le (length xs) (take k (drop a b)) (drop k (drop a b)), take-append-drop, drop-drop)
@@ -50,7 +55,9 @@ stored-sets b n i (x ∷ xs) h =
     rw e (stored-sets (set b i x) n (suc i) xs (omega arith))
 
 -- dwords that end within the buffer are stored straight
-pub stored-straight : (b : List ℕ) (n i : ℕ) (xs : List ℕ) → i + length xs ≤ n → n ≤ length b → stored b n i xs ≡ take i b ++ (xs ++ drop (i + length xs) b)
+pub stored-straight :
+    (b : List ℕ) (n i : ℕ) (xs : List ℕ) → i + length xs ≤ n → n ≤ length b
+    → stored b n i xs ≡ take i b ++ (xs ++ drop (i + length xs) b)
 stored-straight b n i xs h l = stored-sets b n i xs h ∙ sets-eq xs b i (omega arith) ∙ append-assoc (take i b) xs _
 
 -- dwords in two parts
@@ -61,10 +68,13 @@ stored-append b n i (x ∷ xs) ys =
     stored-append (set b (i % n) x) n (suc i) xs ys ∙ ap (λ k. stored (stored (set b (i % n) x) n (suc i) xs) n k ys) (omega arith)
 
 -- more than the k dwords up to the end go on at the front
-pub stored-around : (b : List ℕ) (n i k : ℕ) (xs : List ℕ) → i + k ≡ n → k ≤ length xs → stored b n i xs ≡ stored (stored b n i (take k xs)) n 0 (drop k xs)
+pub stored-around :
+    (b : List ℕ) (n i k : ℕ) (xs : List ℕ) → i + k ≡ n → k ≤ length xs
+    → stored b n i xs ≡ stored (stored b n i (take k xs)) n 0 (drop k xs)
 stored-around b n i k xs e h =
     let l : length (take k xs) ≡ k = length-take-le k xs h in
-    ap (stored b n i) (sym (take-append-drop k xs)) ∙ stored-append b n i (take k xs) (drop k xs) ∙ stored-mod _ n _ 0 (drop k xs) (around n _ (omega arith))
+    ap (stored b n i) (sym (take-append-drop k xs)) ∙ stored-append b n i (take k xs) (drop k xs)
+    ∙ stored-mod _ n _ 0 (drop k xs) (around n _ (omega arith))
 
 -- the buffer after one dword
 pub stored-single : (b : List ℕ) (i h : ℕ) → i < length b → set b i h ≡ stored b (length b) i (h ∷ [])
@@ -129,7 +139,9 @@ pub window-around : (b : List ℕ) (n i k m : ℕ) → i + k ≡ n → window b 
 window-around b n i k m e = rw (window-append, window-mod b n (i + k) 0 m (around n (i + k) e))
 
 -- a part from place 2 on, behind two dwords that are stored by themselves
-pub two-then : (out : List ℕ) (h s len : ℕ) (w : List ℕ) → 2 ≤ len → len ≤ length out → putMid 2 (len - 2) (set (set out 0 h) 1 s) w ≡ h ∷ s ∷ (w ++ drop len out)
+pub two-then :
+    (out : List ℕ) (h s len : ℕ) (w : List ℕ) → 2 ≤ len → len ≤ length out
+    → putMid 2 (len - 2) (set (set out 0 h) 1 s) w ≡ h ∷ s ∷ (w ++ drop len out)
 two-then [] h s len w l k = absurd (omega arith)
 two-then (x ∷ []) h s len w l k = absurd (omega arith)
 two-then (x ∷ y ∷ o) h s zero w l k = absurd (omega arith)
@@ -148,7 +160,8 @@ laid-none dst xs h = rw (lt-leb _ _ h)
 
 -- a message that is there, and for which there is room, is laid
 pub laid-there-from :
-    (b : List ℕ) (own h s len : ℕ) (out : List ℕ) → own < length b → 2 ≤ len → len ≤ length b → length b ≤ 16384 → len ≤ length out
+    (b : List ℕ) (own h s len : ℕ) (out : List ℕ) → own < length b → 2 ≤ len → len ≤ length b → length b ≤ 16384
+    → len ≤ length out
     → laidFrom b own h s len out ≡ h ∷ s ∷ window b (length b) (own + 2) (len - 2) ++ drop len out
 unfolding laidFrom
 laid-there-from b own h s len out x y z v w =

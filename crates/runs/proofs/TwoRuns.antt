@@ -12,7 +12,8 @@ use borrow.Rule.Slice.PartMut.{midOf, putMid}
 use Rattle.runs.specs.Buffer.{window, stored, storedAt, laid}
 use Rattle.runs.specs.TwoRuns.{firstCount, secondCount, runOf, withRun, storedRuns, readRuns}
 use Rattle.runs.proofs.Ring.{window-mod, stored-length}
-use Rattle.runs.proofs.Straight.{laid-there, to-end, two-then, stored-straight, stored-around, stored-single, stored-there, window-straight, window-around}
+use Rattle.runs.proofs.Straight.{laid-there, to-end, two-then, stored-straight, stored-around}
+use Rattle.runs.proofs.Straight.{stored-single, stored-there, window-straight, window-around}
 
 -- the first run has all the dwords, or goes to the end
 module _ (n i k : ℕ) where
@@ -74,7 +75,9 @@ unfolding runOf
 read-run b n i k h l = window-straight b n i k h l
 
 -- dwords of which the first f are the first run, and the others the second
-in-runs : (b : List ℕ) (i : ℕ) (xs : List ℕ) (f : ℕ) → firstCount (length b) i (length xs) ≡ f → storedRuns b i xs ≡ withRun (withRun b i (take f xs)) 0 (drop f xs)
+in-runs :
+    (b : List ℕ) (i : ℕ) (xs : List ℕ) (f : ℕ) → firstCount (length b) i (length xs) ≡ f
+    → storedRuns b i xs ≡ withRun (withRun b i (take f xs)) 0 (drop f xs)
 unfolding storedRuns
 in-runs b i xs f e = rw e
 
@@ -90,7 +93,9 @@ alone b i xs h =
     let z : drop (length xs) xs ≡ [] = drop-of-length-le xs {i = length xs} (omega arith) in
     rw (in-runs b i xs (length xs) (first-all _ _ _ h), a, z, none-left)
 
-pub stored-in-runs : (b : List ℕ) (i : ℕ) (xs : List ℕ) → i < length b → length xs ≤ length b → stored b (length b) i xs ≡ storedRuns b i xs
+pub stored-in-runs :
+    (b : List ℕ) (i : ℕ) (xs : List ℕ) → i < length b → length xs ≤ length b
+    → stored b (length b) i xs ≡ storedRuns b i xs
 stored-in-runs b i xs l h = elim (decLt (length b - i) (length xs)) [ yes u ↦ around u | no u ↦ straight (omega arith) ]
   where
     straight : length xs ≤ length b - i → stored b (length b) i xs ≡ storedRuns b i xs
@@ -109,7 +114,8 @@ stored-in-runs b i xs l h = elim (decLt (length b - i) (length xs)) [ yes u ↦ 
         ∙ sym (in-runs b i xs k (first-to-end _ _ _ (omega arith)))
 
 -- dwords that fit, in their runs, are those that are stored
-pub stored-fit : (b : List ℕ) (i : ℕ) (xs : List ℕ) → i < length b → length xs ≤ length b → storedRuns b i xs ≡ storedAt b i xs
+pub stored-fit :
+    (b : List ℕ) (i : ℕ) (xs : List ℕ) → i < length b → length xs ≤ length b → storedRuns b i xs ≡ storedAt b i xs
 stored-fit b i xs l h = sym (stored-in-runs b i xs l h) ∙ sym (stored-there b i xs l h)
 
 -- k dwords that are read, of which the first f are the first run
@@ -152,11 +158,14 @@ together b i h w r f e =
 
 pub judged-together :
     (b : List ℕ) (i h w : ℕ) (r : List ℕ) → i + 2 ≤ length b
-    → let f = firstCount (length b) (i + 2) (length r) in storedRuns b i (h ∷ w ∷ r) ≡ withRun (withRun b i (h ∷ w ∷ take f r)) 0 (drop f r)
+    → let f = firstCount (length b) (i + 2) (length r) in
+    storedRuns b i (h ∷ w ∷ r) ≡ withRun (withRun b i (h ∷ w ∷ take f r)) 0 (drop f r)
 judged-together b i h w r l = together b i h w r _ (behind-two (length b) i (length r) l)
 
 -- or one of them is all of it
-pub judged-apart : (b : List ℕ) (i h w : ℕ) (r : List ℕ) → i + 1 ≡ length b → storedRuns b i (h ∷ w ∷ r) ≡ withRun (withRun b i (h ∷ [])) 0 (w ∷ r)
+pub judged-apart :
+    (b : List ℕ) (i h w : ℕ) (r : List ℕ) → i + 1 ≡ length b
+    → storedRuns b i (h ∷ w ∷ r) ≡ withRun (withRun b i (h ∷ [])) 0 (w ∷ r)
 judged-apart b i h w r e =
     let o : length b - i ≡ 1 = omega arith in
     in-runs b i (h ∷ w ∷ r) 1 (first-to-end _ _ _ (omega arith) ∙ o)
@@ -175,13 +184,18 @@ unfolding withRun
 opened b i h xs l =
     let e : i + 1 + length xs ≡ i + suc (length xs) = omega arith in
     let t : take (i + 1) (set b i h) ≡ take i b ++ (h ∷ []) = rw add-one (take-suc-set b i h l) in
-    let d : drop (i + suc (length xs)) (set b i h) ≡ drop (i + suc (length xs)) b = drop-set-lt (i + suc (length xs)) b i h (omega arith) in
+    let d : drop (i + suc (length xs)) (set b i h) ≡ drop (i + suc (length xs)) b =
+    drop-set-lt (i + suc (length xs)) b i h (omega arith) in
     rw (e, t, d) (append-assoc (take i b) (h ∷ []) _)
 
--- what `store_runs` stores: two dwords by value and the others, as many as lie before the end, and those that are left from z on, which is the front
+-- what `store_runs` stores: two dwords by value and the others, as many as lie before the end, and those that are left
+-- from z on, which is the front
 pub stored-together :
-    (b r after m : List ℕ) (h w i : ℕ) {z : ℕ} {y : List ℕ} → let k = length b - i in after ≡ withRun m z y → z ≡ 0 → y ≡ take (length r - (k - 2)) (drop (k - 2) r)
-    → m ≡ withRun b i (h ∷ w ∷ take (k - 2) r) → i < length b → k < 2 + length r → (k ≡ 1 → ⊥) → after ≡ storedRuns b i (h ∷ w ∷ r)
+    (b r after m : List ℕ) (h w i : ℕ) {z : ℕ} {y : List ℕ}
+    → let k = length b - i in
+    after ≡ withRun m z y → z ≡ 0 → y ≡ take (length r - (k - 2)) (drop (k - 2) r)
+    → m ≡ withRun b i (h ∷ w ∷ take (k - 2) r) → i < length b → k < 2 + length r → (k ≡ 1 → ⊥)
+    → after ≡ storedRuns b i (h ∷ w ∷ r)
 stored-together b r after m h w i u e x v l t o =
     let k = length b - i in
     let p : k ≡ 2 + (k - 2) = omega arith in
@@ -189,22 +203,31 @@ stored-together b r after m h w i u e x v l t o =
 
 -- or one by value before the end, and the other with the others from z on
 pub stored-apart :
-    (b r after : List ℕ) (h w i : ℕ) {z : ℕ} → after ≡ withRun (set b i h) z (w ∷ r) → z ≡ 0 → i + 1 ≡ length b → after ≡ storedRuns b i (h ∷ w ∷ r)
+    (b r after : List ℕ) (h w i : ℕ) {z : ℕ} → after ≡ withRun (set b i h) z (w ∷ r) → z ≡ 0 → i + 1 ≡ length b
+    → after ≡ storedRuns b i (h ∷ w ∷ r)
 stored-apart b r after h w i u e f =
-    let s : set b i h ≡ withRun b i (h ∷ []) = stored-single b i h (omega arith) ∙ stored-run b (length b) i (h ∷ []) (omega arith) (omega arith) in
+    let s : set b i h ≡ withRun b i (h ∷ []) =
+    stored-single b i h (omega arith) ∙ stored-run b (length b) i (h ∷ []) (omega arith) (omega arith) in
     rw (u, e, s) (sym (judged-apart b i h w r f))
 
--- what `store_dwords` stores: as many dwords as lie before the end, and those that are left from z on, which is the front
+-- what `store_dwords` stores: as many dwords as lie before the end, and those that are left from z on, which is the
+-- front
 pub stored-split :
-    (b xs after m : List ℕ) (i : ℕ) {z : ℕ} {y : List ℕ} → let k = length b - i in after ≡ withRun m z y → z ≡ 0 → y ≡ take (length xs - k) (drop k xs)
-    → m ≡ withRun b i (take k xs) → k < length xs → after ≡ storedRuns b i xs
+    (b xs after m : List ℕ) (i : ℕ) {z : ℕ} {y : List ℕ}
+    → let k = length b - i in
+    after ≡ withRun m z y → z ≡ 0 → y ≡ take (length xs - k) (drop k xs)
+    → m ≡ withRun b i (take k xs) → k < length xs
+    → after ≡ storedRuns b i xs
 stored-split b xs after m i u e x v t =
     let k = length b - i in
     rw (u, x, to-end k xs, v, e) (sym (in-runs b i xs k (first-to-end _ _ _ (omega arith))))
 
--- what `load_runs` reads: k dwords to the front of dst, and from z on, which is the buffer's front, as many others as it has places behind them
+-- what `load_runs` reads: k dwords to the front of dst, and from z on, which is the buffer's front, as many others as
+-- it has places behind them
 pub read-together :
-    (dst b d x y : List ℕ) (i : ℕ) {z : ℕ} → let k = length b - i in y ≡ runOf b z (length (midOf k (length d - k) d)) → z ≡ 0
+    (dst b d x y : List ℕ) (i : ℕ) {z : ℕ}
+    → let k = length b - i in
+    y ≡ runOf b z (length (midOf k (length d - k) d)) → z ≡ 0
     → x ≡ runOf b i (length (midOf 0 (k - 0) dst)) → d ≡ putMid 0 (k - 0) dst x → i < length b → k < length dst
     → putMid k (length d - k) d y ≡ readRuns b i (length dst)
 read-together dst b d x y i v e u p l h =
@@ -224,7 +247,8 @@ laid-run dst xs h = rw (laid-there xs dst h, zero-add)
 
 -- what `lay_rest` lays: two dwords by value, and behind them those that are read from two places further on
 pub laid-behind :
-    (out b : List ℕ) (h s len own r : ℕ) (w : List ℕ) → 2 ≤ len → len ≤ length out → len ≤ length b → own < length b → r ≡ (own + 2) % length b
+    (out b : List ℕ) (h s len own r : ℕ) (w : List ℕ) → 2 ≤ len → len ≤ length out → len ≤ length b → own < length b
+    → r ≡ (own + 2) % length b
     → w ≡ readRuns b r (length (midOf 2 (len - 2) (set (set out 0 h) 1 s)))
     → putMid 2 (len - 2) (set (set out 0 h) 1 s) w ≡ h ∷ s ∷ (window b (length b) (own + 2) (len - 2) ++ drop len out)
 laid-behind out b h s len own r w l k f o e v =

@@ -19,8 +19,8 @@ stored b n i (x ∷ xs) = stored (set b (i % n) x) n (suc i) xs
 unfoldable pub laid : List ℕ → List ℕ → List ℕ
 laid xs out = cond (leb (length xs) (length out)) (xs ++ drop (length xs) out) out
 
--- ours, for code that asks nothing of its caller: the offset k dwords past an own offset of a ring of n, which is (own + k) mod n; 0 where own is no offset of
--- the ring, k exceeds it, or no ring is so long
+-- ours, for code that asks nothing of its caller: the offset k dwords past an own offset of a ring of n, which is (own
+-- + k) mod n; 0 where own is no offset of the ring, k exceeds it, or no ring is so long
 unfoldable pub past : ℕ → ℕ → ℕ → ℕ
 past n own k = cond (ltb own n && leb k n && leb n 16384) ((own + k) % n) 0
 
@@ -28,15 +28,16 @@ past n own k = cond (ltb own n && leb k n && leb n 16384) ((own + k) % n) 0
 unfoldable pub storedAt : List ℕ → ℕ → List ℕ → List ℕ
 storedAt b at xs = cond (ltb at (length b) && leb (length xs) (length b)) (stored b (length b) at xs) b
 
--- ours: a message of len dwords that starts at place own of the buffer, of which the first two were read, laid at the front of an output; where the buffer has no
--- such message, or the output no room, nothing is laid
+-- ours: a message of len dwords that starts at place own of the buffer, of which the first two were read, laid at the
+-- front of an output; where the buffer has no such message, or the output no room, nothing is laid
 unfoldable pub laidFrom : List ℕ → ℕ → ℕ → ℕ → ℕ → List ℕ → List ℕ
 laidFrom b own header second len out =
     cond (ltb own (length b) && leb 2 len && leb len (length b) && leb (length b) 16384 && leb len (length out))
     (header ∷ second ∷ window b (length b) (own + 2) (len - 2) ++ drop len out)
     out
 
--- ours: places filled with the dwords of a buffer from place at on, around its end, where it has so many and at is a place of it; else they stay
+-- ours: places filled with the dwords of a buffer from place at on, around its end, where it has so many and at is a
+-- place of it; else they stay
 unfoldable pub filledFrom : List ℕ → ℕ → List ℕ → List ℕ
 filledFrom b at dst =
     cond (ltb at (length b) && leb (length dst) (length b)) (window b (length b) at (length dst)) dst

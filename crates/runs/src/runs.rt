@@ -1,5 +1,6 @@
-// Straight runs of dwords: a message goes into the ring, and out of it, in one or in two. The first two dwords of a message were judged, so they
-// are given by value and never read here; what copies is lent just the places that it fills.
+// Straight runs of dwords: a message goes into the ring, and out of it, in one or in two. The first two dwords of a
+// message were judged, so they are given by value and never read here; what copies is lent just the places that it
+// fills.
 ghost use mathlib.Core.Path.{_≡_};
 ghost use mathlib.Core.List.{_∷_, _++_};
 ghost use Prim.Native.Nat.{_+_, _-_, _≤_, _<_};
@@ -65,7 +66,8 @@ pub fn lay(dst: &mut [u32], header: u32, word: u32, rest: &[u32])
     store_judged(dst, 0, header, word, rest);
 }
 
-// Lays a receiver's own copy of a message at the front of the output, and returns the head to publish. It is lent neither ring nor descriptor.
+// Lays a receiver's own copy of a message at the front of the output, and returns the head to publish. It is lent
+// neither ring nor descriptor.
 pub fn lay_copy(
     out: &mut [u32],
     header: u32,
@@ -74,14 +76,16 @@ pub fn lay_copy(
     own: usize,
     n: usize,
 ) -> usize
-    ensures { λ r. ⌜ (now (out .exit) ≡ laid (header ∷ word ∷ now (rest .entry)) (now (out .entry))) × (r ≡ Buffer.past n own (2 + length (now (rest .entry)))) × (r < 16384) ⌝ }
+    ensures { λ r.
+        ⌜ (now (out .exit) ≡ laid (header ∷ word ∷ now (rest .entry)) (now (out .entry)))
+        × (r ≡ Buffer.past n own (2 + length (now (rest .entry)))) × (r < 16384) ⌝ }
 {
     lay(out, header, word, rest);
     past(own, 2 + rest.len(), n)
 }
 
-// Stores a message from place `at` on in its runs: one up to the end of the buffer at most, and one from the front with what is left. Where the end falls between
-// the first two dwords, the second opens the second run.
+// Stores a message from place `at` on in its runs: one up to the end of the buffer at most, and one from the front with
+// what is left. Where the end falls between the first two dwords, the second opens the second run.
 fn store_runs(buf: &mut [u32], at: usize, header: u32, word: u32, rest: &[u32])
     requires { ⌜ (at < length (now buf)) × (2 + length (now rest) ≤ length (now buf)) ⌝ }
     ensures { λ _. ⌜ now (buf .exit) ≡ storedRuns (now (buf .entry)) at (header ∷ word ∷ now (rest .entry)) ⌝ }
@@ -104,10 +108,13 @@ fn store_runs(buf: &mut [u32], at: usize, header: u32, word: u32, rest: &[u32])
     store_run(buf, FRONT, &rest[next..]);
 }
 
-// Stores a message of these two dwords and the others in the ring from place `at` on, or nothing where it does not fit, and returns the tail to publish. It is
-// lent no descriptor, so that what it stores is stored before TAIL can be published.
+// Stores a message of these two dwords and the others in the ring from place `at` on, or nothing where it does not fit,
+// and returns the tail to publish. It is lent no descriptor, so that what it stores is stored before TAIL can be
+// published.
 pub fn store_message(buf: &mut [u32], at: usize, header: u32, word: u32, rest: &[u32]) -> usize
-    ensures { λ r. ⌜ (now (buf .exit) ≡ storedAt (now (buf .entry)) at (header ∷ word ∷ now (rest .entry))) × (r ≡ Buffer.past (length (now (buf .entry))) at (2 + length (now (rest .entry)))) × (r < 16384) ⌝ }
+    ensures { λ r.
+        ⌜ (now (buf .exit) ≡ storedAt (now (buf .entry)) at (header ∷ word ∷ now (rest .entry)))
+        × (r ≡ Buffer.past (length (now (buf .entry))) at (2 + length (now (rest .entry)))) × (r < 16384) ⌝ }
 {
     let n = buf.len();
     let tail = past(at, 2 + rest.len(), n);
@@ -165,7 +172,8 @@ fn load_runs(dst: &mut [u32], buf: &[u32], at: usize)
     }
 }
 
-// Fills dst with the dwords of the ring from place `at` on, read in their runs, or leaves it where the ring has not so many or no such place.
+// Fills dst with the dwords of the ring from place `at` on, read in their runs, or leaves it where the ring has not so
+// many or no such place.
 pub fn load_dwords(dst: &mut [u32], buf: &[u32], at: usize)
     ensures { λ _. ⌜ now (dst .exit) ≡ filledFrom (now (buf .entry)) at (now (dst .entry)) ⌝ }
 {
@@ -180,8 +188,12 @@ pub fn load_dwords(dst: &mut [u32], buf: &[u32], at: usize)
 
 // The dwords behind the first two of a message that starts at place `own`, read to their places in the output.
 fn lay_rest(out: &mut [u32], header: u32, second: u32, len: usize, buf: &[u32], own: usize)
-    requires { ⌜ (2 ≤ len) × (len ≤ length (now out)) × (len ≤ length (now buf)) × (own < length (now buf)) × (length (now buf) ≤ 16384) ⌝ }
-    ensures { λ _. ⌜ now (out .exit) ≡ header ∷ second ∷ window (now (buf .entry)) (length (now (buf .entry))) (own + 2) (len - 2) ++ drop len (now (out .entry)) ⌝ }
+    requires { ⌜ (2 ≤ len) × (len ≤ length (now out)) × (len ≤ length (now buf)) × (own < length (now buf))
+        × (length (now buf) ≤ 16384) ⌝ }
+    ensures { λ _.
+        ⌜ now (out .exit)
+        ≡ header ∷ second ∷ window (now (buf .entry)) (length (now (buf .entry))) (own + 2) (len - 2)
+        ++ drop len (now (out .entry)) ⌝ }
 {
     out[0] = header;
     out[1] = second;
@@ -189,8 +201,9 @@ fn lay_rest(out: &mut [u32], header: u32, second: u32, len: usize, buf: &[u32], 
     load_runs(&mut out[2..len], buf, at);
 }
 
-// Lays a message of which the first two dwords were read, and the others are read now, at the front of the output, or nothing where there is no such message
-// or no room, and returns the head to publish. It is lent no descriptor, so that what it reads is read before HEAD can be published.
+// Lays a message of which the first two dwords were read, and the others are read now, at the front of the output, or
+// nothing where there is no such message or no room, and returns the head to publish. It is lent no descriptor, so that
+// what it reads is read before HEAD can be published.
 pub fn lay_message(
     out: &mut [u32],
     header: u32,
@@ -199,7 +212,9 @@ pub fn lay_message(
     buf: &[u32],
     own: usize,
 ) -> usize
-    ensures { λ r. ⌜ (now (out .exit) ≡ laidFrom (now (buf .entry)) own header second len (now (out .entry))) × (r ≡ Buffer.past (length (now (buf .entry))) own len) × (r < 16384) ⌝ }
+    ensures { λ r.
+        ⌜ (now (out .exit) ≡ laidFrom (now (buf .entry)) own header second len (now (out .entry)))
+        × (r ≡ Buffer.past (length (now (buf .entry))) own len) × (r < 16384) ⌝ }
 {
     let n = buf.len();
     let head = past(own, len, n);

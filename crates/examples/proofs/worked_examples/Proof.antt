@@ -1,5 +1,5 @@
--- `worked_examples` meets its contract: each row of the table by computation, with every definition that it calls on unfolded. Assumes
--- nothing.
+-- `worked_examples` meets its contract: each row of the table by computation, with every definition that it calls on
+-- unfolded. Assumes nothing.
 use Prim.{tt}
 use mathlib.Core.Path.{refl}
 use mathlib.Core.Option.{Option·elim}
@@ -38,9 +38,12 @@ unfolding
     Inputs.littles Inputs.cssHeader Inputs.image Inputs.entryBytes Inputs.directoryOf Inputs.directory
     fit dword typeOf carried bodyFields bodiesFrom bodies ofType bodyOf someBody known wellFormed isMessage originNumber originOf
     decoded unpack Option·elim headerFields hxgFields pack refusing
-    firstCount secondCount runOf withRun storedRuns readRuns allowed used free zeros allZero idle activeSend need firstNeeds lookNeeds sendLookNeeds receiveLookNeeds marked openNumber openBy
-    sendDecision Send.lookBy Send.moveNumber Send.moveBy Send.publishNumber Send.publishBy moves allMovesBy Send.goOnNumber Receive.goOnNumber Send.afterLook receiveDecision Receive.lookBy Receive.wholeNumber Receive.wholeBy
-    Receive.afterLook Receive.moveNumber Receive.moveBy Receive.publishNumberOf Receive.publishBy activeReceive
+    firstCount secondCount runOf withRun storedRuns readRuns
+    allowed used free zeros allZero idle activeSend activeReceive openNumber openBy moves allMovesBy
+    need firstNeeds lookNeeds sendLookNeeds receiveLookNeeds marked sendDecision receiveDecision
+    Send.lookBy Send.moveNumber Send.moveBy Send.publishNumber Send.publishBy Send.goOnNumber Send.afterLook
+    Receive.lookBy Receive.moveNumber Receive.moveBy Receive.publishNumberOf Receive.publishBy Receive.goOnNumber
+    Receive.afterLook Receive.wholeNumber Receive.wholeBy
     dwordAt Css.sizes Css.agree Css.spanOf Css.number Css.truncated Css.shown Css.place
     Cpd.all Cpd.firstFrom Cpd.countFrom Cpd.isName Cpd.hasMarker Cpd.directoryNumber Cpd.firstEntry Cpd.entriesNamed Cpd.number Cpd.place
     reading manifestNumber manifestReading hucNumber hucReading

@@ -1,4 +1,5 @@
--- `demand_1` meets its contract: each call's number is that of the first row of the table that is given. Assumes nothing.
+-- `demand_1` meets its contract: each call's number is that of the first row of the table that is given. Assumes
+-- nothing.
 use Prim.Native.Nat.{ℕ, zero, suc}
 use mathlib.Core.Path.{_≡_, refl, _∙_}
 use mathlib.Core.Bool.{true, false}
@@ -7,7 +8,8 @@ use lib.Dec.{eqb·zero-suc}
 use borrow.Author.Tests.{ne-eqb}
 use Rattle.channel.specs.State.{State, idleAt, madeFor, idle, activeSend, activeReceive}
 use Rattle.channel.specs.Opening.{openBy}
-use Rattle.channel.specs.Operations.{Op, sendLook, sendMove, sendPublish, sendWhole, receiveLook, receiveMove, receivePublish, receiveWhole, gives}
+use Rattle.channel.specs.Operations.{Op, sendLook, sendMove, sendPublish, sendWhole}
+use Rattle.channel.specs.Operations.{receiveLook, receiveMove, receivePublish, receiveWhole, gives}
 use Rattle.firmware.specs.Css
 use Rattle.firmware.specs.Cpd
 use Rattle.firmware.specs.Inside.{hucNumber}
@@ -16,12 +18,18 @@ use Rattle.firmware.specs.declared.css.Component.the-variants.{Ucode}
 use Rattle.firmware.proofs.Nowhere.{entry-nowhere, huc-nowhere, image-nowhere, name-nowhere}
 use Rattle.refusals.specs.Table.{fits, operationRows}
 use Rattle.refusals.specs.Left.{OperationRefused, ReservedStay}
-use Rattle.refusals.specs.Refusals.{Demand1, LeftBy, PublicCall, directoryCall, entryCall, hucAnswerCall, hucLocationCall, hucVersionCall, imageAnswerCall, imageLocationCall, imageVersionCall, manifestVersionCall, nameAnswerCall, nameLocationCall, numberOf, openCall, operationCall, packCall, tests, unpackCall}
+use Rattle.refusals.specs.Refusals.{Demand1, LeftBy, PublicCall, directoryCall, entryCall}
+use Rattle.refusals.specs.Refusals.{hucAnswerCall, hucLocationCall, hucVersionCall, imageAnswerCall, imageLocationCall}
+use Rattle.refusals.specs.Refusals.{imageVersionCall, manifestVersionCall, nameAnswerCall, nameLocationCall, numberOf}
+use Rattle.refusals.specs.Refusals.{openCall, operationCall, packCall, tests, unpackCall}
 use Rattle.refusals.proofs.Sends.{send-look, send-move, send-publish, send-whole}
 use Rattle.refusals.proofs.Receives.{opening-refused, receive-look, receive-move, receive-publish, receive-whole}
 use Rattle.refusals.proofs.Lowest.{accepts, allRise, exactly, firstJudged, firstOf, rising}
-use Rattle.refusals.proofs.Rows.{opens, receive-looks, receive-moves, receive-publishes, receives-whole, send-looks, send-moves, send-publishes}
-use Rattle.refusals.proofs.Files.{alone, directory-number, entry-number, huc-number, image-number, location-refused, manifest-number, packs, reading-refused, refused-nothing, seek-number, unpacks}
+use Rattle.refusals.proofs.Rows.{opens, receive-looks, receive-moves, receive-publishes}
+use Rattle.refusals.proofs.Rows.{receives-whole, send-looks, send-moves, send-publishes}
+use Rattle.refusals.proofs.Files.{alone, directory-number, entry-number, huc-number}
+use Rattle.refusals.proofs.Files.{image-number, location-refused, manifest-number, packs}
+use Rattle.refusals.proofs.Files.{reading-refused, refused-nothing, seek-number, unpacks}
 use Rattle.refusals.proofs.demand_1.Statement.{statement}
 use Rattle.refusals.proofs.demand_1.Tie as tie
 
@@ -37,7 +45,8 @@ operation-number receiveMove s d b = receive-move s b .codes d ∙ receive-moves
 operation-number (receivePublish o) s d b = receive-publish s o b .codes d ∙ receive-publishes s o d b
 operation-number (receiveWhole o) s d b = receive-whole s o b .codes d ∙ receives-whole s o d b
 
-operation-refused : (op : Op) (s : State) (d b : List ℕ) → (gives op s d b .code ≡ 0 → ⊥) → OperationRefused op s d b (gives op s d b)
+operation-refused :
+    (op : Op) (s : State) (d b : List ℕ) → (gives op s d b .code ≡ 0 → ⊥) → OperationRefused op s d b (gives op s d b)
 operation-refused (sendLook m) s d b = send-look s m b .refused d
 operation-refused sendMove s d b = send-move s b .refused d
 operation-refused sendPublish s d b = send-publish s b .refused d

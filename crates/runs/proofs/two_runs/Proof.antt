@@ -1,7 +1,8 @@
 -- `two_runs` meets its contract, which is the statement. Assumes nothing.
 use Prim.Native.Nat.{_-_}
 use native.Mathlib.Omega.{arith}
-use Rattle.runs.proofs.TwoRuns.{first-places, second-places, one, two, none-left, stored-in-runs, read-in-runs, judged-together, judged-apart, others-read}
+use Rattle.runs.proofs.TwoRuns.{first-places, second-places, one, two, none-left}
+use Rattle.runs.proofs.TwoRuns.{stored-in-runs, read-in-runs, judged-together, judged-apart, others-read}
 use Rattle.runs.proofs.two_runs.Statement.{statement}
 use Rattle.runs.proofs.two_runs.Tie as tie
 

@@ -11,11 +11,29 @@ returns c = rw (← c .before .before .before .of-type .ensures, c .before .enum
 
 returns-2 : tie.Need-returns-2
 unfolding packing ofTyped Option·elim
-returns-2 c = rw (← c .before .before .before .before .before .before .of-type .ensures, c .before .before .before .before .body .given .1, ← c .before .before .spare .ensures, c .before .if1 .taken) (c .packed-as .ensures)
+returns-2 c =
+    let picked = c .before .before .before .before in
+    rw (← picked .before .before .of-type .ensures, picked .body .given .1, ← c .before .before .spare .ensures, c .before .if1 .taken)
+    (c .packed-as .ensures)
 
 returns-3 : tie.Need-returns-3
 unfolding packing ofTyped Option·elim
-returns-3 c = rw (← c .before .before .before .before .before .before .of-type .ensures, c .before .before .before .before .body .given .1, ← c .before .before .spare .ensures, c .before .if1 .left) (c .not-packed2 .ensures)
+returns-3 c =
+    let picked = c .before .before .before .before in
+    rw (← picked .before .before .of-type .ensures, picked .body .given .1, ← c .before .before .spare .ensures, c .before .if1 .left)
+    (c .not-packed2 .ensures)
 
 pub guc-pack-spec : {M : Type 1} → statement M
-guc-pack-spec = tie.close (tie.spec (λ c κs. search needs) (λ c. search needs) (λ c κs. search needs) (λ c. search needs) (λ c κs. search needs) (λ c κs. search needs) (λ c κs. search needs) returns returns-2 returns-3)
+guc-pack-spec =
+    tie.close
+    (tie.spec
+    (λ c κs. search needs)
+    (λ c. search needs)
+    (λ c κs. search needs)
+    (λ c. search needs)
+    (λ c κs. search needs)
+    (λ c κs. search needs)
+    (λ c κs. search needs)
+    returns
+    returns-2
+    returns-3)

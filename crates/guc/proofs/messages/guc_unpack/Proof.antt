@@ -15,4 +15,12 @@ unfolding unpackedBy ofUnpacked Option·elim
 returns-2 c = rw (← c .before .before .before .before .unpack .ensures, c .before .before .m .given .1) (c .decoded .ensures)
 
 pub guc-unpack-spec : {M : Type 1} → statement M
-guc-unpack-spec = tie.close (tie.spec (λ c κs. search needs) (λ c. search needs) (λ c. search needs) (λ c κs. search needs) returns returns-2)
+guc-unpack-spec =
+    tie.close
+    (tie.spec
+    (λ c κs. search needs)
+    (λ c. search needs)
+    (λ c. search needs)
+    (λ c κs. search needs)
+    returns
+    returns-2)

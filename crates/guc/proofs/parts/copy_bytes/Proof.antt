@@ -1,4 +1,5 @@
--- `parts::copy_bytes` meets its contract: after i turns the first i bytes are those of `src` and the others as they were. Assumes nothing.
+-- `parts::copy_bytes` meets its contract: after i turns the first i bytes are those of `src` and the others as they
+-- were. Assumes nothing.
 use Prim.Native.Nat.{_-_, _≤_}
 use mathlib.Core.Path.{_≡_, refl, _∙_}
 use mathlib.Core.List.{_++_}
@@ -25,7 +26,8 @@ loop-again : tie.Need-loop-again Inv-loop μ-loop
 loop-again c =
     let l = c .before .before .loop in
     let a = c .before .before .before .args in
-    (omega arith, simp length-set (omega arith), rw (l .inv .2) (copied-more (now (a .dst)) (now (a .src)) (l .i) (omega arith) (omega arith)))
+    let more = copied-more (now (a .dst)) (now (a .src)) (l .i) (omega arith) (omega arith) in
+    (omega arith, simp length-set (omega arith), rw (l .inv .2) more)
 
 returns : tie.Need-returns Inv-loop μ-loop
 returns c =
@@ -33,4 +35,16 @@ returns c =
     c .before .loop .inv .2 ∙ simp (e, take-length)
 
 pub copy-bytes-spec : {M : Type 1} → statement M
-copy-bytes-spec = tie.close (tie.spec Inv-loop μ-loop loop-holds (λ c. search needs) (λ c. search needs) (λ c. search needs) (λ c. search needs) loop-again (λ c. search needs) returns)
+copy-bytes-spec =
+    tie.close
+    (tie.spec
+    Inv-loop
+    μ-loop
+    loop-holds
+    (λ c. search needs)
+    (λ c. search needs)
+    (λ c. search needs)
+    (λ c. search needs)
+    loop-again
+    (λ c. search needs)
+    returns)

@@ -15,7 +15,9 @@ returns-2 c = simp (c .before .if1 .left, lt-ltb _ _ (c .if2 .taken))
 
 returns-3 : tie.Need-returns-3
 unfolding copiedBy
-returns-3 c = simp (c .before .before .before .before .before .if1 .left, le-ltb _ _ (c .before .before .before .before .if2 .left), c .before .before .copy-bytes .ensures)
+returns-3 c =
+    let room = c .before .before .before .before in
+    simp (room .before .if1 .left, le-ltb _ _ (room .if2 .left), c .before .before .copy-bytes .ensures)
 
 pub copy-out-spec : {M : Type 1} → statement M
 copy-out-spec = tie.close (tie.spec returns returns-2 (λ c κs. search needs) (λ c. search needs) returns-3)

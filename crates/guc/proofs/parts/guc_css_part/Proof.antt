@@ -12,7 +12,18 @@ returns c = rw (← c .before .before .component .ensures, c .enum-told .given .
 returns-2 : tie.Need-returns-2
 unfolding cssPart ofWhich Option·elim
 returns-2 c =
-    rw (← c .before .before .before .before .before .component .ensures, c .before .before .before .c .given .1) (rw (c .before .css-located .ensures) at (c .as-part .ensures))
+    let picked = c .before .before .before in
+    rw (← picked .before .before .component .ensures, picked .c .given .1)
+    (rw (c .before .css-located .ensures) at (c .as-part .ensures))
 
 pub guc-css-part-spec : {M : Type 1} → statement M
-guc-css-part-spec = tie.close (tie.spec (λ c κs. search needs) (λ c. search needs) (λ c. search needs) (λ c κs. search needs) (λ c κs. search needs) returns returns-2)
+guc-css-part-spec =
+    tie.close
+    (tie.spec
+    (λ c κs. search needs)
+    (λ c. search needs)
+    (λ c. search needs)
+    (λ c κs. search needs)
+    (λ c κs. search needs)
+    returns
+    returns-2)

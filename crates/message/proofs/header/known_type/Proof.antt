@@ -9,8 +9,9 @@ returns : tie.Need-returns
 unfolding known bodyOf bodiesFrom bodies ofType typeOf someBody
 returns c =
     let t = c .hxg-type .ensures in
-    by-type (c .before .args .word) (λ e. simp (t, e)) (λ e. simp (t, e)) (λ e. simp (t, e)) (λ e. simp (t, e)) (λ e. simp (t, e)) (λ e. simp (t, e))
-    (λ e. simp (t, e)) (λ e. simp (t, e))
+    by-type (c .before .args .word)
+    (λ e. simp (t, e)) (λ e. simp (t, e)) (λ e. simp (t, e)) (λ e. simp (t, e))
+    (λ e. simp (t, e)) (λ e. simp (t, e)) (λ e. simp (t, e)) (λ e. simp (t, e))
 
 pub known-type-spec : {M : Type 1} → statement M
 known-type-spec = tie.close (tie.spec (λ c κs. search needs) returns)

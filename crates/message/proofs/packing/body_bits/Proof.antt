@@ -1,4 +1,5 @@
--- `packing::body_bits` meets its contract, type by type: the fields of each lie where its row of the table says. Assumes nothing.
+-- `packing::body_bits` meets its contract, type by type: the fields of each lie where its row of the table says.
+-- Assumes nothing.
 use native.Mathlib.Nat.{mul-one, add-zero, add-assoc}
 use borrow.Author.Needs.{needs}
 use Rattle.message.specs.Fields.{fit, dword}

@@ -1,5 +1,5 @@
--- `packing::pack` meets its contract: the tests are those of `pack-is`, and the sums fit since the fields lie side by side.
--- Assumes nothing.
+-- `packing::pack` meets its contract: the tests are those of `pack-is`, and the sums fit since the fields lie side by
+-- side. Assumes nothing.
 use Prim.Native.Nat.{ℕ, _<_}
 use mathlib.Core.Path.{_≡_, refl, sym, _∙_}
 use mathlib.Core.Bool.{Bool, true, false, _&&_, cond}
@@ -46,27 +46,31 @@ returns c =
     simp (pack-is, w, and-false)
 
 mul-t13 : tie.Need-mul-t13
-mul-t13 c = omega (arith, header-fence (c .before .before .before .before .before .args .m .«num_dwords») (c .before .before .before .before .before .args .m .fence) (c .if1 .taken))
+mul-t13 c =
+    let m = c .before .before .before .before .before .args .m in
+    omega (arith, header-fence (m .«num_dwords») (m .fence) (c .if1 .taken))
 
 add-t14 : tie.Need-add-t14
 add-t14 c =
-    let n = c .before .before .before .before .before .args .m .«num_dwords» in
-    let f = c .before .before .before .before .before .args .m .fence in
-    omega (arith, header-n n f (c .if1 .taken), header-fence n f (c .if1 .taken))
+    let m = c .before .before .before .before .before .args .m in
+    let n = m .«num_dwords» in
+    omega (arith, header-n n (m .fence) (c .if1 .taken), header-fence n (m .fence) (c .if1 .taken))
 
 add-t16 : tie.Need-add-t16
 add-t16 c =
-    let b = bodyFields (c .before .before .before .before .before .before .args .m .body) in
-    let o = c .before .before .before .before .before .before .args .m .origin in
-    let e = sym (c .before .before .before .before .before .body-bits .ensures) ∙ c .before .before .before .bits .given .1 in
-    let l = dword-lt 31 b (body-tiles (c .before .before .before .before .before .before .args .m .body)) (placed-fit (fit b) (dword b) _ e) in
-    omega (arith, placed-bits (fit b) (dword b) _ e, ltb-true (originNumber o) 2 (origin-fits o))
+    let placed = c .before .before .before in
+    let m = placed .before .before .before .args .m in
+    let b = bodyFields (m .body) in
+    let e = sym (placed .before .before .body-bits .ensures) ∙ placed .bits .given .1 in
+    let l = dword-lt 31 b (body-tiles (m .body)) (placed-fit (fit b) (dword b) _ e) in
+    omega (arith, placed-bits (fit b) (dword b) _ e, ltb-true (originNumber (m .origin)) 2 (origin-fits (m .origin)))
 
 returns-2 : tie.Need-returns-2
 unfolding refusing ofPacked
 returns-2 c =
-    let b = bodyFields (c .before .before .before .before .before .before .args .m .body) in
-    let e = sym (c .before .before .before .before .before .body-bits .ensures) ∙ c .before .before .before .bits .given .1 in
+    let placed = c .before .before .before in
+    let b = bodyFields (placed .before .before .before .args .m .body) in
+    let e = sym (placed .before .before .body-bits .ensures) ∙ placed .bits .given .1 in
     simp (pack-is, c .before .if1 .taken, placed-fit (fit b) (dword b) _ e, placed-bits (fit b) (dword b) _ e, c .origin-bit .ensures)
 
 returns-3 : tie.Need-returns-3

@@ -38,8 +38,9 @@ returns-7 c =
     let t = c .before .hxg-type .ensures in
     let n = c .match .rest in
     let e =
-    else-success (c .before .before .args .word) (c .before .before .pre) (λ z. n .0 .0 .0 .0 .0 .1 (t ∙ z)) (λ z. n .0 .0 .0 .0 .1 (t ∙ z))
-    (λ z. n .0 .0 .0 .1 (t ∙ z)) (λ z. n .0 .0 .1 (t ∙ z)) (λ z. n .0 .1 (t ∙ z)) (λ z. n .1 (t ∙ z)) in
+    else-success (c .before .before .args .word) (c .before .before .pre)
+    (λ z. n .0 .0 .0 .0 .0 .1 (t ∙ z)) (λ z. n .0 .0 .0 .0 .1 (t ∙ z)) (λ z. n .0 .0 .0 .1 (t ∙ z))
+    (λ z. n .0 .0 .1 (t ∙ z)) (λ z. n .0 .1 (t ∙ z)) (λ z. n .1 (t ∙ z)) in
     simp (e, div-one)
 
 pub body-spec : {M : Type 1} → statement M

@@ -1,4 +1,5 @@
--- `numbers::first_needs` meets its contract: at each `return` the tests that led there say which number it is. Assumes nothing.
+-- `numbers::first_needs` meets its contract: at each `return` the tests that led there say which number it is. Assumes
+-- nothing.
 use borrow.Author.Needs.{needs}
 use borrow.Author.Tests.{eq-eqb, ne-eqb, not-true, not-false}
 use Rattle.ring.specs.Numbers.{need, firstNeeds}

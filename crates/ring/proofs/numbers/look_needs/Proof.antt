@@ -1,4 +1,5 @@
--- `numbers::look_needs` meets its contract: at each `return` the tests that led there say which number it is. Assumes nothing.
+-- `numbers::look_needs` meets its contract: at each `return` the tests that led there say which number it is. Assumes
+-- nothing.
 use borrow.Author.Tests.{ne-eqb, lt-ltb, le-ltb}
 use Rattle.ring.specs.Numbers.{need, lookNeeds}
 use Rattle.ring.proofs.LookNeeds.{look-needs-none}
@@ -20,11 +21,14 @@ returns-3 c = simp (c .before .before .if1 .left, lt-ltb _ _ (c .before .if2 .le
 returns-4 : tie.Need-returns-4
 unfolding need lookNeeds
 returns-4 c =
-    simp (c .before .before .before .if1 .left, lt-ltb _ _ (c .before .before .if2 .left), lt-ltb _ _ (c .before .if3 .left), ne-eqb _ _ (c .if4 .taken))
+    let high = c .before .before in
+    simp (high .before .if1 .left, lt-ltb _ _ (high .if2 .left), lt-ltb _ _ (c .before .if3 .left), ne-eqb _ _ (c .if4 .taken))
 
 returns-5 : tie.Need-returns-5
 returns-5 c =
-    simp (look-needs-none _ _ _ _ _ _ (record { good = c .before .before .before .if1 .left; head = c .before .before .if2 .left; tail = c .before .if3 .left; same = c .if4 .left }))
+    let high = c .before .before in
+    simp (look-needs-none _ _ _ _ _ _
+    (record { good = high .before .if1 .left; head = high .if2 .left; tail = c .before .if3 .left; same = c .if4 .left }))
 
 pub look-needs-spec : {M : Type 1} → statement M
 look-needs-spec = tie.close (tie.spec returns returns-2 returns-3 returns-4 returns-5)

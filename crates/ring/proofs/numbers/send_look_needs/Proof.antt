@@ -1,4 +1,5 @@
--- `numbers::send_look_needs` meets its contract: past 6, 7 and 8 the offsets are below N, and the room decides. Assumes nothing.
+-- `numbers::send_look_needs` meets its contract: past 6, 7 and 8 the offsets are below N, and the room decides. Assumes
+-- nothing.
 use mathlib.Core.Path.{sym, _∙_}
 use native.Mathlib.Omega.{arith}
 use borrow.Author.Needs.{needs}

@@ -1,4 +1,5 @@
--- `receiving::receive_decision` meets its contract: 1, 2 and 3 are judged first, and past them the descriptor and the header decide. Assumes nothing.
+-- `receiving::receive_decision` meets its contract: 1, 2 and 3 are judged first, and past them the descriptor and the
+-- header decide. Assumes nothing.
 use mathlib.Core.Path.{refl, sym, _∙_}
 use mathlib.Core.Bool.{true}
 use lib.ListN.{length, getD}
@@ -16,7 +17,8 @@ returns c =
     let a = c .before .before .before .before .args in
     let n = length (now (a .buf)) in
     let rest = headerNumber (a .own) (now (a .desc)) n (getD (now (a .buf)) (a .own) 0) in
-    let e = first-needs-one (length (now (a .desc))) n (a .fits) true 4 rest (c .before .first-needs .result) (sym (c .before .first-needs .ensures)) (c .if1 .taken) in
+    let judged = c .before .first-needs in
+    let e = first-needs-one (length (now (a .desc))) n (a .fits) true 4 rest (judged .result) (sym (judged .ensures)) (c .if1 .taken) in
     rw (e, ne-eqb _ _ (c .if1 .taken))
 
 returns-2 : tie.Need-returns-2
@@ -25,7 +27,8 @@ returns-2 c =
     let a = c .before .before .before .before .before .args in
     let n = length (now (a .buf)) in
     let rest = headerNumber (a .own) (now (a .desc)) n (getD (now (a .buf)) (a .own) 0) in
-    let e = first-needs-none (length (now (a .desc))) n (a .fits) true 4 rest refl (sym (c .before .before .first-needs .ensures) ∙ c .before .if1 .left) in
+    let z = sym (c .before .before .first-needs .ensures) ∙ c .before .if1 .left in
+    let e = first-needs-none (length (now (a .desc))) n (a .fits) true 4 rest refl z in
     rw e (c .pending-header .ensures)
 
 pub receive-decision-spec : {M : Type 1} → statement M

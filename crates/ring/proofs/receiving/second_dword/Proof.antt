@@ -13,8 +13,9 @@ use Rattle.ring.proofs.receiving.second_dword.Tie as tie
 returns : tie.Need-returns
 returns c =
     let a = c .before .before .args in
-    let n = length (now (a .buf)) in
-    sym (List·getD-eq-default (window (now (a .buf)) n (a .own) (a .len)) 0 (omega (arith, window-length (now (a .buf)) n (a .own) (a .len))))
+    let b = now (a .buf) in
+    let n = length b in
+    sym (List·getD-eq-default (window b n (a .own) (a .len)) 0 (omega (arith, window-length b n (a .own) (a .len))))
 
 returns-2 : tie.Need-returns-2
 returns-2 c =

@@ -1,4 +1,5 @@
--- `receiving::take_decision` meets its contract: 1, 2, 3 and 5 are judged first, and past them the descriptor and the header decide. Assumes nothing.
+-- `receiving::take_decision` meets its contract: 1, 2, 3 and 5 are judged first, and past them the descriptor and the
+-- header decide. Assumes nothing.
 use mathlib.Core.Path.{refl, sym, _∙_}
 use borrow.Author.Needs.{needs}
 use borrow.Author.Tests.{ne-eqb}

@@ -1,4 +1,5 @@
--- `sending::send_decision` meets its contract: 1 to 4 are judged first, and past them the descriptor's words decide. Assumes nothing.
+-- `sending::send_decision` meets its contract: 1 to 4 are judged first, and past them the descriptor's words decide.
+-- Assumes nothing.
 use mathlib.Core.Path.{refl, sym, _∙_}
 use borrow.Author.Needs.{needs}
 use Rattle.ring.specs.Numbers.{sendDecision}
@@ -16,19 +17,35 @@ returns c =
 returns-2 : tie.Need-returns-2
 unfolding sendDecision
 returns-2 c =
-    let f = c .before .before .before .before .before .before .before in
+    let second = c .before .before .before in
+    let first = second .before .before in
+    let f = first .before .before in
     let s = f .before in
     let e = rw (s .before .need .ensures, s .before .before .starts-message .ensures) at (s .first-needs .ensures) in
     simp (
       c .send-look-needs .ensures,
       c .before .wide3 .ensures,
       c .before .before .dword-at3 .ensures,
-      c .before .before .before .wide2 .ensures,
-      c .before .before .before .before .dword-at2 .ensures,
-      c .before .before .before .before .before .wide .ensures,
-      c .before .before .before .before .before .before .dword-at .ensures,
+      second .wide2 .ensures,
+      second .before .dword-at2 .ensures,
+      first .wide .ensures,
+      first .before .dword-at .ensures,
     )
     (sym (first-needs-none _ _ _ _ 4 _ refl (sym e ∙ f .if1 .left)))
 
 pub send-decision-spec : {M : Type 1} → statement M
-send-decision-spec = tie.close (tie.spec (λ c κs. search needs) (λ c κs. search needs) (λ c κs. search needs) returns (λ c κs. search needs) (λ c κs. search needs) (λ c κs. search needs) (λ c κs. search needs) (λ c κs. search needs) (λ c κs. search needs) (λ c κs. search needs) returns-2)
+send-decision-spec =
+    tie.close
+    (tie.spec
+    (λ c κs. search needs)
+    (λ c κs. search needs)
+    (λ c κs. search needs)
+    returns
+    (λ c κs. search needs)
+    (λ c κs. search needs)
+    (λ c κs. search needs)
+    (λ c κs. search needs)
+    (λ c κs. search needs)
+    (λ c κs. search needs)
+    (λ c κs. search needs)
+    returns-2)

@@ -12,8 +12,10 @@ end-send-requires c κs e = let p = c .before .before .before .place-message .en
 
 returns : tie.Need-returns
 returns c =
-    let a = c .before .before .before .before .before .before .before .before .before .before .before .before .args in
-    whole-placed (a .fits) (a .own) (now (a .msg)) (now (a .desc)) (now (a .buf)) _ _ _ (c .before .before .before .before .before .before .place-message .ensures) (c .before .before .end-send .ensures)
+    let done = c .before .before .before .before .before .before in
+    let a = done .before .before .before .before .before .before .args in
+    whole-placed (a .fits) (a .own) (now (a .msg)) (now (a .desc)) (now (a .buf)) _ _ _
+    (done .place-message .ensures) (c .before .before .end-send .ensures)
 
 pub whole-send-spec : {M : Type 1} → statement M
 whole-send-spec =

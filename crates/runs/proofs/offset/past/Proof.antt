@@ -20,7 +20,9 @@ returns-4 : tie.Need-returns-4
 returns-4 c = (sym (past-is _ _ _ (omega arith) (omega arith) (omega arith) ∙ mod-eq-of-lt (c .if4 .taken)), omega arith)
 
 returns-5 : tie.Need-returns-5
-returns-5 c = (sym (past-is _ _ _ (omega arith) (omega arith) (omega arith) ∙ past-round _ _ _ (omega arith) (omega arith) (c .if4 .left)), omega arith)
+returns-5 c =
+    let round = past-round _ _ _ (omega arith) (omega arith) (c .if4 .left) in
+    (sym (past-is _ _ _ (omega arith) (omega arith) (omega arith) ∙ round), omega arith)
 
 pub past-spec : {M : Type 1} → statement M
 past-spec = tie.close (tie.spec returns returns-2 returns-3 (λ c. search needs) returns-4 returns-5)

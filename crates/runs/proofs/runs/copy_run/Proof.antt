@@ -1,4 +1,5 @@
--- `runs::copy_run` meets its contract: after i turns the first i dwords are those of `src` and the others as they were. Assumes nothing.
+-- `runs::copy_run` meets its contract: after i turns the first i dwords are those of `src` and the others as they were.
+-- Assumes nothing.
 use Prim.Native.Nat.{_-_, _≤_}
 use mathlib.Core.Path.{_≡_, refl, _∙_}
 use mathlib.Core.List.{[], _++_, append-nil}
@@ -25,7 +26,8 @@ loop-again : tie.Need-loop-again Inv-loop μ-loop
 loop-again c =
     let l = c .before .before .loop in
     let a = c .before .before .before .args in
-    (omega arith, simp length-set (omega arith), rw (l .inv .2) (copied-more (now (a .dst)) (now (a .src)) (l .i) (omega arith) (omega arith)))
+    let more = copied-more (now (a .dst)) (now (a .src)) (l .i) (omega arith) (omega arith) in
+    (omega arith, simp length-set (omega arith), rw (l .inv .2) more)
 
 returns : tie.Need-returns Inv-loop μ-loop
 returns c =

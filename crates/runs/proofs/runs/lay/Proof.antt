@@ -21,8 +21,9 @@ returns-2 c =
 
 returns-3 : tie.Need-returns-3
 returns-3 c =
-    let a = c .before .before .before .before .before .before .before .before .args in
-    c .before .before .store-judged .ensures ∙ laid-run (now (a .dst)) (a .header ∷ a .word ∷ now (a .rest)) (omega arith)
+    let stored = c .before .before in
+    let a = stored .before .before .before .before .before .before .args in
+    stored .store-judged .ensures ∙ laid-run (now (a .dst)) (a .header ∷ a .word ∷ now (a .rest)) (omega arith)
 
 pub lay-spec : {M : Type 1} → statement M
 lay-spec =

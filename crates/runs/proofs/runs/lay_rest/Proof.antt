@@ -1,4 +1,5 @@
--- `runs::lay_rest` meets its contract: behind the two dwords that are stored lie the runs that are read. Assumes nothing.
+-- `runs::lay_rest` meets its contract: behind the two dwords that are stored lie the runs that are read. Assumes
+-- nothing.
 use Prim.Native.Nat.{_+_, _-_, _%_, _<_}
 use mathlib.Core.Path.{_≡_, _∙_}
 use native.Mathlib.Nat.{mod-lt}
@@ -35,8 +36,8 @@ returns c =
     let a = c .before .before .before .before .before .before .before .args in
     let n = length (now (a .buf)) in
     let e = c .before .before .before .before .past .ensures .0 ∙ past-is n (a .own) 2 (omega arith) (omega arith) (omega arith) in
-    laid-behind (now (a .out)) (now (a .buf)) (a .header) (a .second) (a .len) (a .own) _ _ (omega arith) (omega arith) (omega arith) (omega arith) e
-    (c .before .before .load-runs .ensures)
+    laid-behind (now (a .out)) (now (a .buf)) (a .header) (a .second) (a .len) (a .own) _ _
+    (omega arith) (omega arith) (omega arith) (omega arith) e (c .before .before .load-runs .ensures)
 
 pub lay-rest-spec : {M : Type 1} → statement M
 lay-rest-spec =

@@ -17,9 +17,11 @@ returns-2 c = sym (filled-long _ _ _ (c .if2 .taken))
 
 returns-3 : tie.Need-returns-3
 returns-3 c =
-    let a = c .before .before .before .before .before .before .before .before .args in
+    let loaded = c .before .before in
+    let a = loaded .before .before .before .before .before .before .args in
     let k = length (now (a .dst)) in
-    c .before .before .load-runs .ensures ∙ sym (read-in-runs (now (a .buf)) (a .at) k (omega arith) (omega arith))
+    loaded .load-runs .ensures
+    ∙ sym (read-in-runs (now (a .buf)) (a .at) k (omega arith) (omega arith))
     ∙ sym (filled-there (now (a .buf)) (a .at) (now (a .dst)) (omega arith) (omega arith))
 
 pub load-dwords-spec : {M : Type 1} → statement M

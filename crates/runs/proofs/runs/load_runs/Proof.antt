@@ -17,7 +17,9 @@ returns-2 : tie.Need-returns-2
 returns-2 c =
     let first = c .before .before .before .before .before .before in
     let a = first .before .before .before .before .before .args in
-    read-together (now (a .dst)) (now (a .buf)) _ _ _ (a .at) (c .before .before .load-run3 .ensures) refl (first .load-run2 .ensures) refl (omega arith) (omega arith)
+    let second = c .before .before in
+    read-together (now (a .dst)) (now (a .buf)) _ _ _ (a .at)
+    (second .load-run3 .ensures) refl (first .load-run2 .ensures) refl (omega arith) (omega arith)
 
 pub load-runs-spec : {M : Type 1} → statement M
 load-runs-spec =

@@ -18,15 +18,18 @@ returns-2 c = sym (stored-long _ _ _ (c .if2 .taken))
 -- all of them before the end of the buffer
 returns-3 : tie.Need-returns-3
 returns-3 c =
-    let a = c .before .before .before .before .before .before .before .before .before .args in
-    c .before .before .store-run .ensures ∙ alone (now (a .buf)) (a .at) (now (a .src)) (omega arith)
+    let stored = c .before .before in
+    let a = stored .before .before .before .before .before .before .before .args in
+    stored .store-run .ensures
+    ∙ alone (now (a .buf)) (a .at) (now (a .src)) (omega arith)
     ∙ stored-fit (now (a .buf)) (a .at) (now (a .src)) (omega arith) (omega arith)
 
 -- two runs
 returns-4 : tie.Need-returns-4
 returns-4 c =
     let first = c .before .before .before .before .before .before .before in
-    let a = first .before .before .before .before .before .before .before .before .args in
+    let fits = first .before .before .before .before in
+    let a = fits .before .before .before .before .args in
     let e = rw sub-zero at (first .store-run2 .ensures) in
     stored-split (now (a .buf)) (now (a .src)) _ _ (a .at) (c .before .before .store-run3 .ensures) refl refl e (omega arith)
     ∙ stored-fit (now (a .buf)) (a .at) (now (a .src)) (omega arith) (omega arith)

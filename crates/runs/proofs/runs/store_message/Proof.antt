@@ -23,8 +23,9 @@ returns-2 c =
 
 returns-3 : tie.Need-returns-3
 returns-3 c =
-    let a = c .before .before .before .before .before .before .before .before .before .args in
-    let p = c .before .before .before .before .before .before .past .ensures in
+    let went = c .before .before .before .before .before .before in
+    let a = went .before .before .before .args in
+    let p = went .past .ensures in
     let m = a .header ∷ a .word ∷ now (a .rest) in
     (c .before .before .store-runs .ensures ∙ stored-fit (now (a .buf)) (a .at) m (omega arith) (omega arith), p .0, p .1)
 
