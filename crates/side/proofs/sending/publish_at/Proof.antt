@@ -15,26 +15,42 @@ use Rattle.side.proofs.InWords.{n-is, words-sending}
 use Rattle.side.proofs.sending.publish_at.Statement.{statement}
 use Rattle.side.proofs.sending.publish_at.Tie as tie
 
+-- where the state's numbers are taken, and where the call starts
+abbrev counted : tie.After-sending-number → tie.After-counts-of
+counted q = q .before .before .before .before
+
+abbrev start : tie.After-sending-number → tie.Start
+start q = counted q .before .before .before .before
+
 -- the number is that of a publish
-number : (q : tie.After-sending-number) → let a = q .before .before .before .before .before .before .before .before .args in let s = stateOf (now (a .w)) in q .sending-number .result ≡ firstNeeds (length (now (a .desc))) (a .n) (activeSend (a .n) s) (need (leb (s .len) (s .moved)) 12 0)
-number q = rw (q .before .before .before .before .counts-of .ensures, words-sending) at (q .sending-number .ensures)
+number :
+    (q : tie.After-sending-number)
+    → let a = start q .args in
+    let s = stateOf (now (a .w)) in
+    q .sending-number .result
+    ≡ firstNeeds (length (now (a .desc))) (a .n) (activeSend (a .n) s) (need (leb (s .len) (s .moved)) 12 0)
+number q = rw (counted q .counts-of .ensures, words-sending) at (q .sending-number .ensures)
 
 returns : tie.Need-returns
 unfolding Send.publishBy Send.publishNumber
 returns c b e = simp (e, ← number (c .before), ne-eqb _ _ (c .if1 .taken))
 
 -- what a step that goes on has
-fits : (c : tie.Else1) → let a = c .before .before .before .before .before .before .before .before .before .args in Going (a .n) (stateOf (now (a .w)))
+fits : (c : tie.Else1) → let a = start (c .before) .args in Going (a .n) (stateOf (now (a .w)))
 fits c = going-send _ _ _ _ 0 refl refl refl (sym (number (c .before)) ∙ c .if1 .left)
 
 returns-2 : tie.Need-returns-2
 unfolding Send.publishBy Send.publishNumber
 returns-2 c b e =
-    let f = c .before .before .before .before .before .before .before in
-    let w = now (f .before .before .before .before .before .before .before .before .before .args .w) in
-    let s = f .before .before .before .before .before .counts-of .ensures in
-    let p = rw (ap (λ (x : Counts). x .own) s, ap (λ (x : Counts). x .len) s) at (c .before .before .before .before .before .before .past .ensures .0) ∙ going-past _ _ (fits f) in
-    simp (e, ← number (f .before), f .if1 .left, c .before .before .before .before .publish-tail .ensures, c .rest-at .ensures, p, n-is w)
+    let published = c .before .before .before .before in
+    let placed = published .before .before in
+    let goes-on = placed .before in
+    let q = goes-on .before in
+    let w = now (start q .args .w) in
+    let s = q .before .before .before .before .counts-of .ensures in
+    let place = rw (ap (λ (x : Counts). x .own) s, ap (λ (x : Counts). x .len) s) at (placed .past .ensures .0) in
+    let p = place ∙ going-past _ _ (fits goes-on) in
+    simp (e, ← number q, goes-on .if1 .left, published .publish-tail .ensures, c .rest-at .ensures, p, n-is w)
 
 pub publish-at-spec : {M : Type 1} → statement M
 publish-at-spec =

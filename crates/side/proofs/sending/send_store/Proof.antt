@@ -14,14 +14,20 @@ use Rattle.side.proofs.InWords.{moved-set, words-sending}
 use Rattle.side.proofs.sending.send_store.Statement.{statement}
 use Rattle.side.proofs.sending.send_store.Tie as tie
 
--- where the call starts
+-- where the state's numbers are taken, and where the call starts
+abbrev counted : tie.After-sending-number → tie.After-counts-of
+counted q = q .before .before .before .before
+
 abbrev start : tie.After-sending-number → tie.Start
-start q = q .before .before .before .before .before .before .before .before .before
+start q = counted q .before .before .before .before .before
 
 -- the number is that of a move
-number : (q : tie.After-sending-number) → let a = start q .args in q .sending-number .result ≡ Send.moveNumber (stateOf (now (a .w))) (now (a .desc)) (now (a .buf))
+number :
+    (q : tie.After-sending-number)
+    → let a = start q .args in
+    q .sending-number .result ≡ Send.moveNumber (stateOf (now (a .w))) (now (a .desc)) (now (a .buf))
 unfolding Send.moveNumber
-number q = rw (q .before .before .before .before .counts-of .ensures, words-sending) at (q .sending-number .ensures)
+number q = rw (counted q .counts-of .ensures, words-sending) at (q .sending-number .ensures)
 
 returns : tie.Need-returns
 unfolding Send.moveBy
@@ -32,30 +38,38 @@ fits : (c : tie.Else1) → let a = start (c .before) .args in Going (length (now
 unfolding Send.moveNumber
 fits c = going-send _ _ _ _ 0 refl refl refl (sym (number (c .before)) ∙ c .if1 .left)
 
-below : (c : tie.Else1) → let s = stateOf (now (start (c .before) .args .w)) in s .moved < s .len
+more : (c : tie.Else1) → let s = stateOf (now (start (c .before) .args .w)) in s .moved < s .len
 unfolding Send.moveNumber
-below c = ltb-true _ _ (going-test _ _ _ _ (sym (number (c .before)) ∙ c .if1 .left))
+more c = ltb-true _ _ (going-test _ _ _ _ (sym (number (c .before)) ∙ c .if1 .left))
 
-moved-is : (c : tie.Else1) → c .before .before .before .before .before .counts-of .result .moved ≡ stateOf (now (start (c .before) .args .w)) .moved
-moved-is c = ap (λ (x : Counts). x .moved) (c .before .before .before .before .before .counts-of .ensures)
+moved-is :
+    (c : tie.Else1) → counted (c .before) .counts-of .result .moved ≡ stateOf (now (start (c .before) .args .w)) .moved
+moved-is c = ap (λ (x : Counts). x .moved) (counted (c .before) .counts-of .ensures)
+
+below : (c : tie.Else1) → counted (c .before) .counts-of .result .moved < 256
+below c = omega (arith, moved-is c, more c, fits c .short)
 
 copy-dword-requires : tie.Need-copy-dword-requires
-copy-dword-requires c κs =
-    let e = c .before .before in
-    (refl, refl, omega (arith, moved-is e, below e, fits e .short))
+copy-dword-requires c κs = (refl, refl, omega (arith, below (c .before .before)))
+
+-- the step that goes on, from behind its store
+abbrev goes-on : tie.After-slice-known2 → tie.Else1
+goes-on c =
+    let copied = c .before .before .before .before .before in
+    copied .before .before .before
 
 add-w : tie.Need-add-w
-add-w c = let e = c .before .before .before .before .before .before .before .before in omega (arith, moved-is e, below e, fits e .short)
+add-w c = omega (arith, below (goes-on c))
 
 cast-w : tie.Need-cast-w
-cast-w c = let e = c .before .before .before .before .before .before .before .before in omega (arith, moved-is e, below e, fits e .short)
+cast-w c = omega (arith, below (goes-on c))
 
 returns-2 : tie.Need-returns-2
 unfolding Send.moveBy
 returns-2 c =
-    let e = c .before .before .before .before .before .before .before .before in
+    let e = goes-on c in
     let w = now (start (e .before) .args .w) in
-    let own = ap (λ (x : Counts). x .own) (e .before .before .before .before .before .counts-of .ensures) in
+    let own = ap (λ (x : Counts). x .own) (counted (e .before) .counts-of .ensures) in
     simp (
       ← number (e .before),
       e .if1 .left,
