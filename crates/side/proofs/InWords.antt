@@ -1,5 +1,5 @@
 -- Laws of a state in words: what a change of the words is to the state. Assumes nothing.
-use Prim.Native.Nat.{ℕ, zero, suc, _+_, _-_, _≤_}
+use Prim.Native.Nat.{ℕ, zero, suc, _+_, _-_, _%_, _≤_}
 use mathlib.Core.Path.{_≡_, refl, sym, ap, _∙_}
 use mathlib.Core.Bool.{true}
 use mathlib.Core.List.{List, [], _∷_, _++_, append-nil}
@@ -17,6 +17,9 @@ use Rattle.ring.specs.Numbers.{marked}
 use Rattle.channel.specs.Steps.{pastMessage}
 use Rattle.channel.specs.Send
 use Rattle.channel.specs.Receive
+use Rattle.channel.specs.declared.state.Counts.{Counts}
+use Rattle.channel.proofs.Going.{Going, going-past, going-place}
+use Rattle.runs.specs.Buffer.{past}
 use Rattle.side.specs.Words.{stateOf, inWords}
 use Rattle.runs.proofs.Straight.{drop-replicate, put-front}
 
@@ -152,6 +155,14 @@ words-receiving n w = rw (copy-at 0 w)
 pub words-publish : (o d n : ℕ) (w : List ℕ) → Receive.publishNumberOf (counted (countsOf (stateOf w)) (getD w 4 0 ∷ getD w 5 0 ∷ [])) o d n ≡ Receive.publishNumberOf (stateOf w) o d n
 unfolding Receive.publishNumberOf activeReceive
 words-publish o d n w = rw (copy-at 0 w, copy-at 1 w)
+
+-- numbers that were taken of a state that goes on: the place of its next dword, and the offset past its message
+module _ (n : ℕ) (s : State) (c : Counts) (e : c ≡ countsOf s) (g : Going n s) where
+  pub counted-place : past n (c .own) (c .moved) ≡ (s .own + s .moved) % n
+  counted-place = rw e (going-place n s g)
+
+  pub counted-past : past n (c .own) (c .len) ≡ (s .own + s .len) % n
+  counted-past = rw e (going-past n s g)
 
 -- a look that accepts, of a send and of a receive
 pub send-looked : (s : State) (m d b : List ℕ) → Send.lookBy 0 s m d b ≡ record { code = 0; len = 0; next = Send.loaded s m; desc = d; buf = b; out = [] }

@@ -8,34 +8,47 @@ use borrow.Author.Needs.{needs}
 use borrow.Author.Tests.{ltb-true, ne-eqb}
 use Rattle.channel.specs.Receive
 use Rattle.channel.specs.declared.state.Counts.{Counts}
-use Rattle.channel.proofs.Going.{Going, going-place, going-receive, going-test}
+use Rattle.channel.proofs.Going.{Going, going-receive, going-test}
 use Rattle.side.specs.Words.{stateOf}
-use Rattle.side.proofs.InWords.{copy-set, words-receiving}
+use Rattle.side.proofs.InWords.{copy-set, counted-place, words-receiving}
 use Rattle.side.proofs.receiving.receive_copy.Statement.{statement}
 use Rattle.side.proofs.receiving.receive_copy.Tie as tie
 
+-- where the state's numbers are taken, and where the call starts
+abbrev counted : tie.After-receiving-number → tie.After-counts-of
+counted q = q .before .before .before .before
+
+abbrev start : tie.After-receiving-number → tie.Start
+start q = counted q .before .before .before .before .before
+
 -- the number is that of a move
-number : (q : tie.After-receiving-number) → let a = q .before .before .before .before .before .before .before .before .before .args in q .receiving-number .result ≡ Receive.moveNumber (stateOf (now (a .w))) (now (a .desc)) (now (a .buf))
+number :
+    (q : tie.After-receiving-number)
+    → let a = start q .args in
+    q .receiving-number .result ≡ Receive.moveNumber (stateOf (now (a .w))) (now (a .desc)) (now (a .buf))
 unfolding Receive.moveNumber
-number q = rw (q .before .before .need .ensures, q .before .before .before .before .counts-of .ensures, words-receiving) at (q .receiving-number .ensures)
+number q =
+    let needed = q .before .before in
+    rw (needed .need .ensures, needed .before .before .counts-of .ensures, words-receiving) at (q .receiving-number .ensures)
 
 returns : tie.Need-returns
 unfolding Receive.moveBy
 returns c = simp (← number (c .before), ne-eqb _ _ (c .if1 .taken))
 
 -- what a step that goes on has
-fits : (c : tie.Else1) → let a = c .before .before .before .before .before .before .before .before .before .before .args in Going (length (now (a .buf))) (stateOf (now (a .w)))
+fits : (c : tie.Else1) → let a = start (c .before) .args in Going (length (now (a .buf))) (stateOf (now (a .w)))
 unfolding Receive.moveNumber
 fits c = going-receive _ _ _ _ 0 refl refl refl (sym (number (c .before)) ∙ c .if1 .left)
 
-moved-is : (c : tie.Else1) → c .before .before .before .before .before .counts-of .result .moved ≡ stateOf (now (c .before .before .before .before .before .before .before .before .before .before .args .w)) .moved
-moved-is c = ap (λ (x : Counts). x .moved) (c .before .before .before .before .before .counts-of .ensures)
-
-more : (c : tie.Else1) → let s = stateOf (now (c .before .before .before .before .before .before .before .before .before .before .args .w)) in s .moved < s .len
+more : (c : tie.Else1) → let s = stateOf (now (start (c .before) .args .w)) in s .moved < s .len
 unfolding Receive.moveNumber
 more c = ltb-true _ _ (going-test _ _ _ _ (sym (number (c .before)) ∙ c .if1 .left))
 
-below : (c : tie.Else1) → c .before .before .before .before .before .counts-of .result .moved < 256
+moved-is :
+    (c : tie.Else1) → counted (c .before) .counts-of .result .moved ≡ stateOf (now (start (c .before) .args .w)) .moved
+moved-is c = ap (λ (x : Counts). x .moved) (counted (c .before) .counts-of .ensures)
+
+below : (c : tie.Else1) → counted (c .before) .counts-of .result .moved < 256
 below c = omega (arith, more c, moved-is c, fits c .short)
 
 add-w : tie.Need-add-w
@@ -57,11 +70,12 @@ returns-2 : tie.Need-returns-2
 unfolding Receive.moveBy
 returns-2 c =
     let e = c .before .before in
-    let w = now (e .before .before .before .before .before .before .before .before .before .before .args .w) in
-    let b = now (e .before .before .before .before .before .before .before .before .before .before .args .buf) in
+    let a = start (e .before) .args in
+    let w = now (a .w) in
+    let b = now (a .buf) in
     let v = getD b ((stateOf w .own + stateOf w .moved) % length b) 0 in
-    let own = ap (λ (x : Counts). x .own) (e .before .before .before .before .before .counts-of .ensures) in
-    simp (← number (e .before), e .if1 .left, c .dword-at .ensures, c .before .past .ensures .0, own, moved-is e, going-place _ _ (fits e), copy-set v w (search needs))
+    let p = c .before .past .ensures .0 ∙ counted-place _ _ _ (counted (e .before) .counts-of .ensures) (fits e) in
+    simp (← number (e .before), e .if1 .left, c .dword-at .ensures, p, moved-is e, copy-set v w (search needs))
 
 pub receive-copy-spec : {M : Type 1} → statement M
 receive-copy-spec =

@@ -1,5 +1,5 @@
 -- `sending::publish_at` meets its contract: a number other than 0 leaves all; after 0 the state is active and fits. Assumes nothing.
-use mathlib.Core.Path.{_≡_, refl, sym, ap, _∙_}
+use mathlib.Core.Path.{_≡_, refl, sym, _∙_}
 use lib.ListN.{length}
 use denote.Ref.{now}
 use borrow.Author.Needs.{needs}
@@ -7,11 +7,10 @@ use borrow.Author.Tests.{ne-eqb}
 use Rattle.ring.specs.Numbers.{firstNeeds, need}
 use Rattle.channel.specs.Send
 use Rattle.channel.specs.State.{activeSend}
-use Rattle.channel.specs.declared.state.Counts.{Counts}
-use Rattle.channel.proofs.Going.{Going, going-past, going-send}
+use Rattle.channel.proofs.Going.{Going, going-send}
 use lib.Dec.{leb}
 use Rattle.side.specs.Words.{stateOf}
-use Rattle.side.proofs.InWords.{n-is, words-sending}
+use Rattle.side.proofs.InWords.{counted-past, n-is, words-sending}
 use Rattle.side.proofs.sending.publish_at.Statement.{statement}
 use Rattle.side.proofs.sending.publish_at.Tie as tie
 
@@ -47,9 +46,7 @@ returns-2 c b e =
     let goes-on = placed .before in
     let q = goes-on .before in
     let w = now (start q .args .w) in
-    let s = q .before .before .before .before .counts-of .ensures in
-    let place = rw (ap (λ (x : Counts). x .own) s, ap (λ (x : Counts). x .len) s) at (placed .past .ensures .0) in
-    let p = place ∙ going-past _ _ (fits goes-on) in
+    let p = placed .past .ensures .0 ∙ counted-past _ _ _ (counted q .counts-of .ensures) (fits goes-on) in
     simp (e, ← number q, goes-on .if1 .left, published .publish-tail .ensures, c .rest-at .ensures, p, n-is w)
 
 pub publish-at-spec : {M : Type 1} → statement M

@@ -8,9 +8,9 @@ use borrow.Author.Needs.{needs}
 use borrow.Author.Tests.{ltb-true, ne-eqb}
 use Rattle.channel.specs.Send
 use Rattle.channel.specs.declared.state.Counts.{Counts}
-use Rattle.channel.proofs.Going.{Going, going-place, going-send, going-test}
+use Rattle.channel.proofs.Going.{Going, going-send, going-test}
 use Rattle.side.specs.Words.{stateOf}
-use Rattle.side.proofs.InWords.{moved-set, words-sending}
+use Rattle.side.proofs.InWords.{counted-place, moved-set, words-sending}
 use Rattle.side.proofs.sending.send_store.Statement.{statement}
 use Rattle.side.proofs.sending.send_store.Tie as tie
 
@@ -69,16 +69,15 @@ unfolding Send.moveBy
 returns-2 c =
     let e = goes-on c in
     let w = now (start (e .before) .args .w) in
-    let own = ap (λ (x : Counts). x .own) (counted (e .before) .counts-of .ensures) in
+    let put = c .before .before in
+    let p = put .before .past .ensures .0 ∙ counted-place _ _ _ (counted (e .before) .counts-of .ensures) (fits e) in
     simp (
       ← number (e .before),
       e .if1 .left,
-      c .before .before .put .ensures,
-      c .before .before .before .past .ensures .0,
-      own,
-      c .before .before .before .before .before .copy-dword .ensures,
+      put .put .ensures,
+      p,
+      put .before .before .before .copy-dword .ensures,
       moved-is e,
-      going-place _ _ (fits e),
       moved-set (stateOf w .moved + 1) w (search needs),
     )
 
