@@ -1,4 +1,5 @@
--- `sending::send_store_all` meets its contract: a number other than 0 leaves all; after 0 all that is left is stored and counted. Assumes nothing.
+-- `sending::send_store_all` meets its contract: a number other than 0 leaves all; after 0 all that is left is stored
+-- and counted. Assumes nothing.
 use mathlib.Core.Path.{_≡_, refl, sym, _∙_}
 use native.Mathlib.Omega.{arith}
 use lib.ListN.{length}

@@ -13,7 +13,9 @@ returns-2 : tie.Need-returns-2
 returns-2 c = rw (c .if2 .taken) (c .before .before .before .pre .1 ∙ copy-at 1 (now (c .before .before .before .args .w)))
 
 returns-3 : tie.Need-returns-3
-returns-3 c = c .dword-at .ensures ∙ copy-at (c .before .before .before .before .args .k) (now (c .before .before .before .before .args .w))
+returns-3 c =
+    let a = c .before .before .before .before .args in
+    c .dword-at .ensures ∙ copy-at (a .k) (now (a .w))
 
 pub copy-dword-spec : {M : Type 1} → statement M
 copy-dword-spec =
