@@ -1,4 +1,5 @@
--- What a whole call at once says of the state before it and the state that the caller keeps after it, wherever he keeps it. Assumes nothing.
+-- What a whole call at once says of the state before it and the state that the caller keeps after it, wherever he keeps
+-- it. Assumes nothing.
 use Prim.Native.Nat.{ℕ, _+_, _%_, _<_, _^_}
 use mathlib.Core.Path.{_≡_, refl, sym, ap, _∙_}
 use mathlib.Core.Bool.{true, false, _||_}
