@@ -1,4 +1,5 @@
--- `receiving::lay` meets its contract: two dwords by value and the others from the words are the copy's. Assumes nothing.
+-- `receiving::lay` meets its contract: two dwords by value and the others from the words are the copy's. Assumes
+-- nothing.
 use Prim.Native.Nat.{_+_, _-_}
 use mathlib.Core.Path.{_≡_, _∙_}
 use native.Mathlib.Omega.{arith}

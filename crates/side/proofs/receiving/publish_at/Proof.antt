@@ -1,4 +1,5 @@
--- `receiving::publish_at` meets its contract: its number says whether HEAD moves, and whether the message is laid. Assumes nothing.
+-- `receiving::publish_at` meets its contract: its number says whether HEAD moves, and whether the message is laid.
+-- Assumes nothing.
 use Prim.Native.Nat.{_≤_}
 use mathlib.Core.Path.{_≡_, refl, sym, ap, _∙_}
 use lib.ListN.{length}

@@ -1,4 +1,5 @@
--- `receiving::receive_copy` meets its contract: a number other than 0 leaves all; after 0 the state is active and fits. Assumes nothing.
+-- `receiving::receive_copy` meets its contract: a number other than 0 leaves all; after 0 the state is active and fits.
+-- Assumes nothing.
 use Prim.Native.Nat.{_+_, _%_, _<_}
 use mathlib.Core.Path.{_≡_, refl, sym, ap, _∙_}
 use native.Mathlib.Omega.{arith}

@@ -1,5 +1,5 @@
--- `receiving::receive_copy_all` meets its contract: a number other than 0 leaves all; after 0 all that is left is copied
--- and counted. Assumes nothing.
+-- `receiving::receive_copy_all` meets its contract: a number other than 0 leaves all; after 0 all that is left is
+-- copied and counted. Assumes nothing.
 use mathlib.Core.Path.{_≡_, refl, sym, _∙_}
 use native.Mathlib.Omega.{arith}
 use lib.ListN.{length}

@@ -1,4 +1,5 @@
--- `sending::publish_at` meets its contract: a number other than 0 leaves all; after 0 the state is active and fits. Assumes nothing.
+-- `sending::publish_at` meets its contract: a number other than 0 leaves all; after 0 the state is active and fits.
+-- Assumes nothing.
 use mathlib.Core.Path.{_≡_, refl, sym, _∙_}
 use lib.ListN.{length}
 use denote.Ref.{now}

@@ -1,4 +1,5 @@
--- `sending::send_store` meets its contract: a number other than 0 leaves all; after 0 the state is active and fits. Assumes nothing.
+-- `sending::send_store` meets its contract: a number other than 0 leaves all; after 0 the state is active and fits.
+-- Assumes nothing.
 use Prim.Native.Nat.{_+_, _<_}
 use mathlib.Core.Path.{_≡_, refl, sym, ap, _∙_}
 use native.Mathlib.Omega.{arith}

@@ -1,4 +1,5 @@
--- `sending::store_left` meets its contract: what is left begins with the first dword, with the second, or behind them. Assumes nothing.
+-- `sending::store_left` meets its contract: what is left begins with the first dword, with the second, or behind them.
+-- Assumes nothing.
 use Prim.Native.Nat.{_-_}
 use mathlib.Core.Path.{_∙_}
 use native.Mathlib.Omega.{arith}
