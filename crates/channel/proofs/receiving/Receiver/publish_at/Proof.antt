@@ -14,7 +14,11 @@ use Rattle.channel.proofs.receiving.Receiver.publish_at.Statement.{stat
 use Rattle.channel.proofs.receiving.Receiver.publish_at.Tie as tie
 
 -- the number is that of the state
-number : (q : tie.After-publish-number) → let a = q .before .before .before .before .before .args in q .publish-number .result ≡ publishNumberOf (ofReceiver (a .self)) (length (now (a .out))) (length (now (a .desc))) (a .n)
+number :
+    (q : tie.After-publish-number)
+    → let a = q .before .before .before .before .before .args in
+    q .publish-number .result
+    ≡ publishNumberOf (ofReceiver (a .self)) (length (now (a .out))) (length (now (a .desc))) (a .n)
 unfolding publishNumberOf activeReceive ofReceiver
 number q = rw (q .before .counts .ensures) at (q .publish-number .ensures)
 
@@ -64,9 +68,10 @@ part-lay-copy-end c = omega (arith, within (c .before .before))
 returns-3 : tie.Need-returns-3
 unfolding publishBy ofReceiver
 returns-3 c b e =
-    let s = c .before .before .before .before .before .before .before .before .before .before .before in
+    let laid = c .before .before .before .before .before .before .before in
+    let s = laid .before .before .before .before in
     let a = s .before .before .before .before .before .before .before .args in
-    let l = c .before .before .before .before .before .before .before .lay-copy .ensures in
+    let l = laid .lay-copy .ensures in
     let m = a .self .copy in
     let n = a .self .len in
     let z : 2 + length (take (n - 2) (drop 2 m)) ≡ n = simp (length-take, length-drop) (omega (arith, long s, within s)) in

@@ -1,4 +1,5 @@
--- `Sender::publish_at` meets its contract: a number other than 0 leaves all; after 0 the state is active and fits. Assumes nothing.
+-- `Sender::publish_at` meets its contract: a number other than 0 leaves all; after 0 the state is active and fits.
+-- Assumes nothing.
 use mathlib.Core.Path.{refl, sym, _∙_}
 use borrow.Author.Needs.{needs}
 use borrow.Author.Tests.{ne-eqb}

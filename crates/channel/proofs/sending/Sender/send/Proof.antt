@@ -10,15 +10,32 @@ use Rattle.channel.proofs.sending.Sender.send.Tie as tie
 returns : tie.Need-returns
 unfolding ofSender
 returns c =
-    let a = c .before .before .before .before .before .before .before .before .before .before .before .before .before .args in
-    rw (send-method (ofSender (a .self)) (now (a .msg)) (now (a .desc)) (now (a .buf)) _ _ _ _ (c .before .before .before .before .before .before .before .before .before .is-idle .ensures) (c .before .before .before .before .before .before .whole-send .ensures), ne-eqb _ _ (c .if1 .taken))
+    let sent = c .before .before .before .before .before .before in
+    let told = sent .before .before .before in
+    let a = told .before .before .before .before .args in
+    let steps = send-method (ofSender (a .self)) (now (a .msg)) (now (a .desc)) (now (a .buf)) in
+    rw (steps _ _ _ _ (told .is-idle .ensures) (sent .whole-send .ensures), ne-eqb _ _ (c .if1 .taken))
 
 returns-2 : tie.Need-returns-2
 unfolding ofSender
 returns-2 c =
-    let a = c .before .before .before .before .before .before .before .before .before .before .before .before .before .before .args in
-    rw (send-method (ofSender (a .self)) (now (a .msg)) (now (a .desc)) (now (a .buf)) _ _ _ _ (c .before .before .before .before .before .before .before .before .before .before .is-idle .ensures) (c .before .before .before .before .before .before .before .whole-send .ensures), c .before .if1 .left)
+    let sent = c .before .before .before .before .before .before .before in
+    let told = sent .before .before .before in
+    let a = told .before .before .before .before .args in
+    let steps = send-method (ofSender (a .self)) (now (a .msg)) (now (a .desc)) (now (a .buf)) in
+    rw (steps _ _ _ _ (told .is-idle .ensures) (sent .whole-send .ensures), c .before .if1 .left)
     (simp (c .idle-at .ensures))
 
 pub send-spec : {M : Type 1} → statement M
-send-spec = tie.close (tie.spec (λ c κs. search needs) (λ c κs. search needs) (λ c. search needs) (λ c. search needs) returns (λ c κs. search needs) (λ c. search needs) (λ c. search needs) returns-2)
+send-spec =
+    tie.close
+    (tie.spec
+    (λ c κs. search needs)
+    (λ c κs. search needs)
+    (λ c. search needs)
+    (λ c. search needs)
+    returns
+    (λ c κs. search needs)
+    (λ c. search needs)
+    (λ c. search needs)
+    returns-2)

@@ -21,26 +21,30 @@ returns c = simp (← c .before .go-on-number .ensures, ne-eqb _ _ (c .if1 .take
 fits : (c : tie.Else1) → let a = c .before .before .before .before .args in Going (length (now (a .buf))) (ofSender (a .t1))
 fits c = going-send _ _ _ _ 0 refl refl refl (sym (c .before .go-on-number .ensures) ∙ c .if1 .left)
 
-below : (c : tie.Else1) → c .before .before .before .before .args .t1 .moved < c .before .before .before .before .args .t1 .len
-below c = ltb-true _ _ (going-test _ _ _ _ (sym (c .before .go-on-number .ensures) ∙ c .if1 .left))
+more : (c : tie.Else1) → let s = c .before .before .before .before .args .t1 in s .moved < s .len
+more c = ltb-true _ _ (going-test _ _ _ _ (sym (c .before .go-on-number .ensures) ∙ c .if1 .left))
+
+in-copy : (c : tie.Else1) → c .before .before .before .before .args .t1 .moved < 256
+unfolding ofSender
+in-copy c = omega (arith, more c, fits c .short)
 
 mul-put : tie.Need-mul-put
-unfolding ofSender
-mul-put c = omega (arith, below (c .before .before), fits (c .before .before) .short)
+mul-put c = omega (arith, in-copy (c .before .before))
 
 element-copy-out-put : tie.Need-element-copy-out-put
-unfolding ofSender
-element-copy-out-put c = omega (arith, below (c .before .before), fits (c .before .before) .short)
+element-copy-out-put c = omega (arith, in-copy (c .before .before))
 
 add-next : tie.Need-add-next
-unfolding ofSender
-add-next c = omega (arith, below (c .before .before .before .before .before .before), fits (c .before .before .before .before .before .before) .short)
+add-next c = omega (arith, in-copy (c .before .before .before .before .before .before))
 
 returns-2 : tie.Need-returns-2
 unfolding Send.moveBy Send.moveNumber ofSender
 returns-2 c =
-    let e = c .before .before .before .before .before .before in
-    simp (← e .before .go-on-number .ensures, e .if1 .left, c .before .before .put .ensures, c .before .before .before .before .past .ensures .0, going-place _ _ (fits e))
+    let put = c .before .before in
+    let placed = put .before .before in
+    let e = placed .before .before in
+    let p = placed .past .ensures .0 in
+    simp (← e .before .go-on-number .ensures, e .if1 .left, put .put .ensures, p, going-place _ _ (fits e))
 
 pub store-spec : {M : Type 1} → statement M
 store-spec =
