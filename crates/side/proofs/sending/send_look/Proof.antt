@@ -1,19 +1,17 @@
 -- `sending::send_look` meets its contract: after 0 the words are idle and the message fits the copy, and its first
 -- two dwords are those that were judged. Assumes nothing.
-use Prim.Native.Nat.{_-_}
-use mathlib.Core.List.{_∷_}
 use mathlib.Core.Path.{_≡_, refl, sym, ap, _∙_}
 use native.Mathlib.Omega.{arith}
-use lib.ListN.{length, take, drop, length-take, length-drop}
+use lib.ListN.{length, length-take, length-drop}
 use denote.Ref.{now}
 use borrow.Author.Needs.{needs}
 use borrow.Author.Tests.{ne-eqb}
 use Rattle.message.proofs.Formed.{message-long, message-short}
 use Rattle.ring.proofs.Sent.{Accepted, accepted}
-use Rattle.runs.proofs.Straight.{two-and-rest}
 use Rattle.channel.specs.Send
 use Rattle.channel.specs.State.{idle}
 use Rattle.channel.specs.declared.state.Counts.{Counts}
+use Rattle.channel.proofs.Fits.{two-judged}
 use Rattle.side.specs.Words.{stateOf}
 use Rattle.side.proofs.InWords.{idle-words, looked-send, marked-none}
 use Rattle.side.proofs.sending.send_look.Statement.{statement}
@@ -77,14 +75,11 @@ returns-2 : tie.Need-returns-2
 returns-2 c =
     let looked = c .before .before .before in
     let q = looked .before in
-    let counted = q .before .before .before .before .before .before .before in
-    let a = counted .before .before .before .before .before .before .args in
+    let a = start q .args in
     let m = now (a .msg) in
-    let h = has looked in
-    let word = q .before .before .dword-at2 in
-    let header = q .before .before .before .dword-at in
-    let whole : header .result ∷ word .result ∷ take (length m - 2) (drop 2 m) ≡ m =
-    rw (word .ensures, header .ensures) (two-and-rest m (message-long m (h .is-message))) in
+    let word = q .before .before .dword-at2 .ensures in
+    let header = q .before .before .before .dword-at .ensures in
+    let whole = two-judged m _ _ header word (message-long m (has looked .is-message)) in
     let e = c .load .ensures ∙ ap (Send.loaded (stateOf (now (a .w)))) whole in
     let z = sym (sym (number q) ∙ looked .if1 .left) in
     looked-send (now (a .w)) m (now (a .desc)) (now (a .buf)) _ _ 0 z refl (sym (marked-none (now (a .desc)))) e
