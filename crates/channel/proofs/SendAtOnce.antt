@@ -125,7 +125,8 @@ unfolding Send.afterLook Send.lookBy sendBy
 whole-refused s m d b c t = rw t
 
 -- 'A whole send .. equals its steps run one after another'
-pub send-at-once : (s : State) (m d b : List ℕ) → Send.whole s m d b ≡ sendOutcome s (wholeSend (idle (length b) s) (s .own) m d b)
+pub send-at-once :
+    (s : State) (m d b : List ℕ) → Send.whole s m d b ≡ sendOutcome s (wholeSend (idle (length b) s) (s .own) m d b)
 send-at-once s m d b =
     cases (eqb (Send.lookNumber s m d b) 0)
     (λ t.
@@ -143,4 +144,5 @@ pub send-method :
 unfolding sendBy
 send-method s m d b fits r d′ b′ f e =
     let z : r .len ≡ 0 = ap (λ (x : AtOnce). x .len) e in
-    send-at-once s m d b ∙ ap (λ (t : Bool). sendOutcome s (wholeSend t (s .own) m d b)) (sym f) ∙ ap (sendOutcome s) (sym e) ∙ rw z
+    send-at-once s m d b ∙ ap (λ (t : Bool). sendOutcome s (wholeSend t (s .own) m d b)) (sym f)
+    ∙ ap (sendOutcome s) (sym e) ∙ rw z

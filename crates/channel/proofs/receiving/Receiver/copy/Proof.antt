@@ -35,15 +35,6 @@ in-copy : (c : tie.Else1) → c .before .before .before .before .before .before 
 unfolding ofReceiver
 in-copy c = omega (arith, fits c, more c)
 
-mul-next : tie.Need-mul-next
-mul-next c = omega (arith, in-copy (c .before .before))
-
-element-write-next : tie.Need-element-write-next
-element-write-next c = in-copy (c .before .before)
-
-add-next : tie.Need-add-next
-add-next c = omega (arith, in-copy (c .before .before))
-
 returns-2 : tie.Need-returns-2
 unfolding moveNumber moveBy ofReceiver
 returns-2 c =
@@ -61,7 +52,7 @@ copy-spec =
     returns
     (λ c κs. search needs)
     (λ c κs. search needs)
-    mul-next
-    element-write-next
-    add-next
+    (λ c. omega (arith, in-copy (c .before .before)))
+    (λ c. omega (arith, in-copy (c .before .before)))
+    (λ c. omega (arith, in-copy (c .before .before)))
     returns-2)

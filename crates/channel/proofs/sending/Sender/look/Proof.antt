@@ -49,12 +49,6 @@ has :
     Accepted (idle n s) (s .own) (now (a .msg)) (now (a .desc)) n
 has c = accepted _ _ _ _ _ (sym (number (c .before)) ∙ c .if1 .left)
 
-sub-message-copy : tie.Need-sub-message-copy
-sub-message-copy c = message-long _ (has c .is-message)
-
-part-message-copy-start : tie.Need-part-message-copy-start
-part-message-copy-start c = message-long _ (has c .is-message)
-
 returns-2 : tie.Need-returns-2
 unfolding Send.lookBy ofSender marked
 returns-2 c =
@@ -78,8 +72,8 @@ look-spec =
     (λ c κs. search needs)
     (λ c. search needs)
     returns
-    sub-message-copy
-    part-message-copy-start
+    (λ c. message-long _ (has c .is-message))
+    (λ c. message-long _ (has c .is-message))
     (λ c. search needs)
     (λ c κs. search needs)
     (λ c. search needs)

@@ -28,12 +28,6 @@ in-copy : (c : tie.Else1) → c .before .before .before .before .args .t1 .moved
 unfolding ofSender
 in-copy c = omega (arith, more c, fits c .short)
 
-mul-put : tie.Need-mul-put
-mul-put c = omega (arith, in-copy (c .before .before))
-
-element-copy-out-put : tie.Need-element-copy-out-put
-element-copy-out-put c = omega (arith, in-copy (c .before .before))
-
 add-next : tie.Need-add-next
 add-next c = omega (arith, in-copy (c .before .before .before .before .before .before))
 
@@ -53,8 +47,8 @@ store-spec =
     (λ c κs. search needs)
     returns
     (λ c κs. search needs)
-    mul-put
-    element-copy-out-put
+    (λ c. omega (arith, in-copy (c .before .before)))
+    (λ c. omega (arith, in-copy (c .before .before)))
     (λ c κs. search needs)
     add-next
     (λ c. search needs)
