@@ -29,8 +29,8 @@ number :
     q .receiving-number .result ≡ Receive.moveNumber (stateOf (now (a .w))) (now (a .desc)) (now (a .buf))
 unfolding Receive.moveNumber
 number q =
-    let needed = q .before .before in
-    rw (needed .need .ensures, needed .before .before .counts-of .ensures, words-receiving) at (q .receiving-number .ensures)
+    let rest = q .before .before .need .ensures in
+    rw (rest, counted q .counts-of .ensures, words-receiving) at (q .receiving-number .ensures)
 
 returns : tie.Need-returns
 unfolding Receive.moveBy
@@ -51,21 +51,6 @@ moved-is c = ap (λ (x : Counts). x .moved) (counted (c .before) .counts-of .ens
 
 below : (c : tie.Else1) → counted (c .before) .counts-of .result .moved < 256
 below c = omega (arith, more c, moved-is c, fits c .short)
-
-add-w : tie.Need-add-w
-add-w c = omega (arith, below (c .before .before))
-
-mul-w : tie.Need-mul-w
-mul-w c = omega (arith, below (c .before .before))
-
-element-write-w : tie.Need-element-write-w
-element-write-w c = omega (arith, below (c .before .before))
-
-add-w-2 : tie.Need-add-w-2
-add-w-2 c = omega (arith, below (c .before .before))
-
-cast-w : tie.Need-cast-w
-cast-w c = omega (arith, below (c .before .before))
 
 returns-2 : tie.Need-returns-2
 unfolding Receive.moveBy
@@ -89,10 +74,10 @@ receive-copy-spec =
     returns
     (λ c κs. search needs)
     (λ c κs. search needs)
-    add-w
-    mul-w
-    element-write-w
-    add-w-2
-    cast-w
+    (λ c. omega (arith, below (c .before .before)))
+    (λ c. omega (arith, below (c .before .before)))
+    (λ c. omega (arith, below (c .before .before)))
+    (λ c. omega (arith, below (c .before .before)))
+    (λ c. omega (arith, below (c .before .before)))
     (λ c. search needs)
     returns-2)

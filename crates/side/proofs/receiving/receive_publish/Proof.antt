@@ -8,7 +8,8 @@ use Rattle.side.proofs.receiving.receive_publish.Tie as tie
 returns : tie.Need-returns
 returns c =
     let published = c .before .before .before .before in
-    published .publish-at .ensures (now (published .before .before .before .before .before .before .before .args .buf)) refl
+    let start = published .before .before .before .before .before .before .before in
+    published .publish-at .ensures (now (start .args .buf)) refl
 
 pub receive-publish-spec : {M : Type 1} → statement M
 receive-publish-spec =

@@ -51,12 +51,6 @@ has :
     Accepted (idle n s) (s .own) (now (a .msg)) (now (a .desc)) n
 has c = accepted _ _ _ _ _ (sym (number (c .before)) ∙ c .if1 .left)
 
-sub-load : tie.Need-sub-load
-sub-load c = message-long _ (has (c .before) .is-message)
-
-part-load-start : tie.Need-part-load-start
-part-load-start c = message-long _ (has (c .before) .is-message)
-
 load-requires : tie.Need-load-requires
 load-requires c κs =
     let looked = c .before .before in
@@ -96,8 +90,8 @@ send-look-spec =
     (λ c κs. search needs)
     (λ c. search needs)
     returns
-    sub-load
-    part-load-start
+    (λ c. message-long _ (has (c .before) .is-message))
+    (λ c. message-long _ (has (c .before) .is-message))
     (λ c. search needs)
     load-requires
     (λ c. search needs)

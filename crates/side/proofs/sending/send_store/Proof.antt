@@ -59,12 +59,6 @@ goes-on c =
     let copied = c .before .before .before .before .before in
     copied .before .before .before
 
-add-w : tie.Need-add-w
-add-w c = omega (arith, below (goes-on c))
-
-cast-w : tie.Need-cast-w
-cast-w c = omega (arith, below (goes-on c))
-
 returns-2 : tie.Need-returns-2
 unfolding Send.moveBy
 returns-2 c =
@@ -94,8 +88,8 @@ send-store-spec =
     copy-dword-requires
     (λ c κs. search needs)
     (λ c κs. search needs)
-    add-w
-    cast-w
+    (λ c. omega (arith, below (goes-on c)))
+    (λ c. omega (arith, below (goes-on c)))
     (λ c. search needs)
     (λ c. search needs)
     returns-2)
