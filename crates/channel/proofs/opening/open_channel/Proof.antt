@@ -16,12 +16,12 @@ returns c =
 returns-2 : tie.Need-returns-2
 unfolding openBy
 returns-2 c =
-    let cleared = c .before .before .before .before in
-    let opens = cleared .before .before in
+    let after-clear = c .before .before .before .before in
+    let opens = after-clear .before .before in
     let n = opens .before .open-number .ensures in
     let z = opens .if1 .left in
     let sixteen = open-sixteen _ _ (sym n ∙ z) in
-    rw (← n, z) (simp (cleared .clear .ensures, sixteen, c .before .idle-at3 .ensures, c .idle-at4 .ensures))
+    rw (← n, z) (simp (after-clear .clear .ensures, sixteen, c .before .idle-at3 .ensures, c .idle-at4 .ensures))
 
 pub open-channel-spec : {M : Type 1} → statement M
 open-channel-spec =

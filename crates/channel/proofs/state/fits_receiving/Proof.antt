@@ -27,8 +27,8 @@ returns-4 c = refuted _ (λ e. omega (arith, receive-moved _ _ e, c .if4 .taken)
 returns-5 : tie.Need-returns-5
 unfolding activeReceive
 returns-5 c =
-    let told = c .before .before .before .before .before in
-    let a = told .before .before .before .before .before .args in
+    let after-length = c .before .before .before .before .before in
+    let a = after-length .before .before .before .before .before .args in
     let l : a .s .len ≡ totalLength (a .header) = omega arith in
     rw (
       eq-eqb (a .s .n) (a .n) (omega arith),

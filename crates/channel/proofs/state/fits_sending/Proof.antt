@@ -32,8 +32,8 @@ returns-6 c =
 returns-7 : tie.Need-returns-7
 unfolding activeSend
 returns-7 c =
-    let long = c .before .before .before .before .before .before .before in
-    let a = long .before .before .before .before .before .before .before .args in
+    let half = c .before .before .before .before .before .before .before in
+    let a = half .before .before .before .before .before .before .before .args in
     rw (
       eq-eqb (a .s .n) (a .n) (omega arith),
       lt-ltb (a .s .own) (a .n) (omega arith),

@@ -23,10 +23,10 @@ said q = rw (q .before .before .is-idle .ensures) at (q .receive-decision .ensur
 returns : tie.Need-returns
 unfolding Receive.lookBy
 returns c =
-    let marked = c .before .before in
-    let refused = marked .before .before in
+    let after-mark = c .before .before in
+    let refused = after-mark .before .before in
     let e = ap (λ (x : JudgedHeader). x .code) (said (refused .before)) in
-    simp (← e, ne-eqb _ _ (refused .if1 .taken), marked .mark .ensures)
+    simp (← e, ne-eqb _ _ (refused .if1 .taken), after-mark .mark .ensures)
 
 returns-2 : tie.Need-returns-2
 unfolding Receive.lookBy ofReceiver marked zeros

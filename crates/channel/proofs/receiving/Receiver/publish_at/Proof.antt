@@ -40,12 +40,12 @@ room c = publish-room _ _ _ _ _ (number (c .before)) (moves-head (c .before .pub
 returns-2 : tie.Need-returns-2
 unfolding publishBy ofReceiver
 returns-2 c b e =
-    let published = c .before .before .before in
-    let placed = published .before .before in
-    let malformed = placed .before in
+    let after-publish = c .before .before .before in
+    let after-past = after-publish .before .before in
+    let malformed = after-past .before in
     let f = malformed .before in
-    let p = placed .past .ensures .0 ∙ going-past _ _ (fits f) in
-    simp (e, ← number (f .before), malformed .if2 .taken, c .idle-at .ensures, published .publish-head .ensures, p)
+    let p = after-past .past .ensures .0 ∙ going-past _ _ (fits f) in
+    simp (e, ← number (f .before), malformed .if2 .taken, c .idle-at .ensures, after-publish .publish-head .ensures, p)
 
 -- a number that is not 13 is 0, and then the message has at least two dwords
 zero : (c : tie.Else2) → c .before .before .publish-number .result ≡ 0
@@ -66,18 +66,18 @@ within c = omega (arith, fits (c .before) .short, full (start (c .before .before
 returns-3 : tie.Need-returns-3
 unfolding publishBy ofReceiver
 returns-3 c b e =
-    let published = c .before .before .before in
-    let laid = published .before .before .before .before in
-    let s = laid .before .before .before .before in
+    let after-publish = c .before .before .before in
+    let after-lay = after-publish .before .before .before .before in
+    let s = after-lay .before .before .before .before in
     let f = s .before in
     let a = start (f .before) .args in
-    let l = laid .lay-copy .ensures in
+    let l = after-lay .lay-copy .ensures in
     let m = a .self .copy in
     let n = a .self .len in
     let z : 2 + length (take (n - 2) (drop 2 m)) ≡ n = simp (length-take, length-drop) (omega (arith, long s, within s)) in
     let p = rw z at (l .1) ∙ going-past _ _ (fits f) in
     let o = l .0 ∙ laid-copy n m (now (a .out)) (long s) (within s) (omega (arith, room f, fits f .short)) in
-    simp (e, ← number (f .before), zero s, c .idle-at2 .ensures, published .publish-head2 .ensures, p, o)
+    simp (e, ← number (f .before), zero s, c .idle-at2 .ensures, after-publish .publish-head2 .ensures, p, o)
 
 pub publish-at-spec : {M : Type 1} → statement M
 publish-at-spec =

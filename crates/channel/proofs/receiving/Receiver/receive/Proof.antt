@@ -11,23 +11,23 @@ use Rattle.channel.proofs.receiving.Receiver.receive.Tie as tie
 returns : tie.Need-returns
 unfolding ofReceiver
 returns c =
-    let received = c .before .before .before .before .before .before .before in
-    let told = received .before .before .before in
-    let a = told .before .before .before .before .args in
-    let r = received .whole-receive in
+    let after-whole = c .before .before .before .before .before .before .before in
+    let after-idle = after-whole .before .before .before in
+    let a = after-idle .before .before .before .before .args in
+    let r = after-whole .whole-receive in
     let steps = receive-method (ofReceiver (a .self)) (now (a .out)) (now (a .desc)) (now (a .buf)) in
-    rw (steps _ _ _ _ (told .is-idle .ensures) (r .ensures), moves-head (r .result .code) true (c .if1 .taken))
+    rw (steps _ _ _ _ (after-idle .is-idle .ensures) (r .ensures), moves-head (r .result .code) true (c .if1 .taken))
 
 returns-2 : tie.Need-returns-2
 unfolding ofReceiver
 returns-2 c =
     let moves = c .before in
-    let received = moves .before .before .before .before .before .before .before in
-    let told = received .before .before .before in
-    let a = told .before .before .before .before .args in
-    let r = received .whole-receive in
+    let after-whole = moves .before .before .before .before .before .before .before in
+    let after-idle = after-whole .before .before .before in
+    let a = after-idle .before .before .before .before .args in
+    let r = after-whole .whole-receive in
     let steps = receive-method (ofReceiver (a .self)) (now (a .out)) (now (a .desc)) (now (a .buf)) in
-    rw (steps _ _ _ _ (told .is-idle .ensures) (r .ensures), moves-head (r .result .code) false (moves .if1 .left))
+    rw (steps _ _ _ _ (after-idle .is-idle .ensures) (r .ensures), moves-head (r .result .code) false (moves .if1 .left))
     (simp (c .idle-at .ensures))
 
 pub receive-spec : {M : Type 1} → statement M

@@ -18,8 +18,8 @@ use Rattle.channel.proofs.sending.Sender.look.Tie as tie
 -- where the call starts
 abbrev start : tie.After-send-decision → tie.Start
 start q =
-    let told = q .before .before in
-    told .before .before .before .before .before .before
+    let after-idle = q .before .before in
+    after-idle .before .before .before .before .before .before
 
 -- the number is that of a look at the message
 number :
@@ -28,17 +28,17 @@ number :
     q .send-decision .result ≡ Send.lookNumber (ofSender (a .self)) (now (a .msg)) (now (a .desc)) (now (a .buf))
 unfolding ofSender
 number q =
-    let told = q .before .before in
-    let word = told .before .dword-at2 .ensures in
-    let header = told .before .before .dword-at .ensures in
-    rw (told .is-idle .ensures, word, header) at (q .send-decision .ensures)
+    let after-idle = q .before .before in
+    let word = after-idle .before .dword-at2 .ensures in
+    let header = after-idle .before .before .dword-at .ensures in
+    rw (after-idle .is-idle .ensures, word, header) at (q .send-decision .ensures)
 
 returns : tie.Need-returns
 unfolding Send.lookBy
 returns c =
-    let marked = c .before .before in
-    let refused = marked .before .before in
-    simp (← number (refused .before), ne-eqb _ _ (refused .if1 .taken), marked .mark .ensures)
+    let after-mark = c .before .before in
+    let refused = after-mark .before .before in
+    simp (← number (refused .before), ne-eqb _ _ (refused .if1 .taken), after-mark .mark .ensures)
 
 -- an accepted look has a whole message
 has :

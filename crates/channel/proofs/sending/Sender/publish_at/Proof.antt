@@ -20,11 +20,11 @@ fits c = going-send _ _ _ _ 0 refl refl refl (sym (c .before .go-on-number .ensu
 returns-2 : tie.Need-returns-2
 unfolding Send.publishBy Send.publishNumber ofSender
 returns-2 c b e =
-    let published = c .before .before .before in
-    let placed = published .before .before in
-    let f = placed .before in
-    let p = placed .past .ensures .0 ∙ going-past _ _ (fits f) in
-    simp (e, ← f .before .go-on-number .ensures, f .if1 .left, published .publish-tail .ensures, p, c .idle-at .ensures)
+    let after-publish = c .before .before .before in
+    let after-past = after-publish .before .before in
+    let f = after-past .before in
+    let p = after-past .past .ensures .0 ∙ going-past _ _ (fits f) in
+    simp (e, ← f .before .go-on-number .ensures, f .if1 .left, after-publish .publish-tail .ensures, p, c .idle-at .ensures)
 
 pub publish-at-spec : {M : Type 1} → statement M
 publish-at-spec =

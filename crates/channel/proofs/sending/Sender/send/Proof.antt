@@ -10,20 +10,20 @@ use Rattle.channel.proofs.sending.Sender.send.Tie as tie
 returns : tie.Need-returns
 unfolding ofSender
 returns c =
-    let sent = c .before .before .before .before .before .before in
-    let told = sent .before .before .before in
-    let a = told .before .before .before .before .args in
+    let after-whole = c .before .before .before .before .before .before in
+    let after-idle = after-whole .before .before .before in
+    let a = after-idle .before .before .before .before .args in
     let steps = send-method (ofSender (a .self)) (now (a .msg)) (now (a .desc)) (now (a .buf)) in
-    rw (steps _ _ _ _ (told .is-idle .ensures) (sent .whole-send .ensures), ne-eqb _ _ (c .if1 .taken))
+    rw (steps _ _ _ _ (after-idle .is-idle .ensures) (after-whole .whole-send .ensures), ne-eqb _ _ (c .if1 .taken))
 
 returns-2 : tie.Need-returns-2
 unfolding ofSender
 returns-2 c =
-    let sent = c .before .before .before .before .before .before .before in
-    let told = sent .before .before .before in
-    let a = told .before .before .before .before .args in
+    let after-whole = c .before .before .before .before .before .before .before in
+    let after-idle = after-whole .before .before .before in
+    let a = after-idle .before .before .before .before .args in
     let steps = send-method (ofSender (a .self)) (now (a .msg)) (now (a .desc)) (now (a .buf)) in
-    rw (steps _ _ _ _ (told .is-idle .ensures) (sent .whole-send .ensures), c .before .if1 .left)
+    rw (steps _ _ _ _ (after-idle .is-idle .ensures) (after-whole .whole-send .ensures), c .before .if1 .left)
     (simp (c .idle-at .ensures))
 
 pub send-spec : {M : Type 1} → statement M

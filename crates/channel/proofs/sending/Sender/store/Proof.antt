@@ -34,11 +34,11 @@ add-next c = omega (arith, in-copy (c .before .before .before .before .before .b
 returns-2 : tie.Need-returns-2
 unfolding Send.moveBy Send.moveNumber ofSender
 returns-2 c =
-    let put = c .before .before in
-    let placed = put .before .before in
-    let e = placed .before .before in
-    let p = placed .past .ensures .0 in
-    simp (← e .before .go-on-number .ensures, e .if1 .left, put .put .ensures, p, going-place _ _ (fits e))
+    let after-put = c .before .before in
+    let after-past = after-put .before .before in
+    let e = after-past .before .before in
+    let p = after-past .past .ensures .0 in
+    simp (← e .before .go-on-number .ensures, e .if1 .left, after-put .put .ensures, p, going-place _ _ (fits e))
 
 pub store-spec : {M : Type 1} → statement M
 store-spec =
