@@ -185,11 +185,11 @@ words-publish o d n w = rw (copy-at 0 w, copy-at 1 w)
 
 -- numbers that were taken of a state that goes on: the place of its next dword, and the offset past its message
 module _ (n : ℕ) (s : State) (c : Counts) (e : c ≡ countsOf s) (g : Going n s) where
-  pub counted-place : past n (c .own) (c .moved) ≡ (s .own + s .moved) % n
-  counted-place = rw e (going-place n s g)
+  pub counts-place : past n (c .own) (c .moved) ≡ (s .own + s .moved) % n
+  counts-place = rw e (going-place n s g)
 
-  pub counted-past : past n (c .own) (c .len) ≡ (s .own + s .len) % n
-  counted-past = rw e (going-past n s g)
+  pub counts-past : past n (c .own) (c .len) ≡ (s .own + s .len) % n
+  counts-past = rw e (going-past n s g)
 
 -- a look that accepts, of a send and of a receive
 pub send-looked :

@@ -25,24 +25,24 @@ module _
     (b : List ℕ) (own k : ℕ) (xs : List ℕ)
     (l : own < length b) (h : k ≤ length b) (o : length b ≤ 16384) (f : length xs ≤ length b)
   where
-    abbrev place : ℕ
-    place = (own + k) % length b
+    abbrev offset : ℕ
+    offset = (own + k) % length b
 
-    inside : place < length b
+    inside : offset < length b
     inside = mod-lt (own + k) (omega arith)
 
-    same-place : place % length b ≡ (own + k) % length b
-    same-place = mod-mod (own + k) (length b)
+    same-offset : offset % length b ≡ (own + k) % length b
+    same-offset = mod-mod (own + k) (length b)
 
     pub stored-past : storedAt b (past (length b) own k) xs ≡ stored b (length b) (own + k) xs
     stored-past =
         rw (past-is (length b) own k l h o)
-        (stored-there b place xs inside f ∙ stored-mod b (length b) place (own + k) xs same-place)
+        (stored-there b offset xs inside f ∙ stored-mod b (length b) offset (own + k) xs same-offset)
 
     pub filled-past : filledFrom b (past (length b) own k) xs ≡ window b (length b) (own + k) (length xs)
     filled-past =
         rw (past-is (length b) own k l h o)
-        (filled-there b place xs inside f ∙ window-mod b (length b) place (own + k) (length xs) same-place)
+        (filled-there b offset xs inside f ∙ window-mod b (length b) offset (own + k) (length xs) same-offset)
 
 -- dwords k to len - 1 of a copy m: how many they are, and the first of them by itself
 module _ (m : List ℕ) (len k : ℕ) (f : len ≤ length m) where

@@ -31,13 +31,13 @@ ReceivedAtOnce s o d b r d′ o′ = wholeEnd r d′ b o′ ≡ wholeReceive (id
 
 -- what a whole send has that answers r and leaves d′ and b′: it is accepted from an idle state alone, and the state
 -- after it is idle at the own offset, which fits a word, or the one before it
-pub record Sent (s : State) (m d b : List ℕ) (r : WholeEnd) (d′ b′ : List ℕ) : Type 0 where
+pub record WholeSent (s : State) (m d b : List ℕ) (r : WholeEnd) (d′ b′ : List ℕ) : Type 0 where
   pub from-idle : r .code ≡ 0 → idle (length b) s ≡ true
   pub own-fits : r .code ≡ 0 → r .own < 2 ^ 32
-  pub moved :
+  pub own-moves :
       r .code ≡ 0 → (x : State) → x ≡ idleAt (s .n) (r .own)
       → record { code = r .code; len = 0; next = x; desc = d′; buf = b′; out = [] } ≡ Send.whole s m d b
-  pub stayed :
+  pub state-stays :
       eqb (r .code) 0 ≡ false
       → record { code = r .code; len = 0; next = s; desc = d′; buf = b′; out = [] } ≡ Send.whole s m d b
 
@@ -56,24 +56,24 @@ module _ (s : State) (m d b : List ℕ) (r : WholeEnd) (d′ b′ : List ℕ) (e
       let o : r .own ≡ (s .own + length m) % length b = rw (number z) at (ap (λ (x : AtOnce). x .own) e) in
       omega (arith, o, mod-lt (s .own + length m) {m = length b} (omega arith), i .low, i .high)
 
-  pub sent : Sent s m d b r d′ b′
-  sent =
+  pub whole-sent : WholeSent s m d b r d′ b′
+  whole-sent =
       let steps = send-method s m d b (idle (length b) s) r d′ b′ refl e in
       record {
         from-idle = λ z. has z .is-fit;
         own-fits = sent-own;
-        moved = λ z x q. rw (steps, z, q);
-        stayed = λ z. rw (steps, z);
+        own-moves = λ z x q. rw (steps, z, q);
+        state-stays = λ z. rw (steps, z);
       }
 
 -- the same of a whole receive, which moves the own offset where its number is 0 or 13
-pub record Received (s : State) (o d b : List ℕ) (r : WholeEnd) (d′ o′ : List ℕ) : Type 0 where
+pub record WholeReceived (s : State) (o d b : List ℕ) (r : WholeEnd) (d′ o′ : List ℕ) : Type 0 where
   pub from-idle : (eqb (r .code) 0 || eqb (r .code) 13) ≡ true → idle (length b) s ≡ true
   pub own-fits : (eqb (r .code) 0 || eqb (r .code) 13) ≡ true → r .own < 2 ^ 32
-  pub moved :
+  pub own-moves :
       (eqb (r .code) 0 || eqb (r .code) 13) ≡ true → (x : State) → x ≡ idleAt (s .n) (r .own)
       → record { code = r .code; len = r .len; next = x; desc = d′; buf = b; out = o′ } ≡ Receive.whole s o d b
-  pub stayed :
+  pub state-stays :
       (eqb (r .code) 0 || eqb (r .code) 13) ≡ false
       → record { code = r .code; len = r .len; next = s; desc = d′; buf = b; out = o′ } ≡ Receive.whole s o d b
 
@@ -104,12 +104,12 @@ module _ (s : State) (o d b : List ℕ) (r : WholeEnd) (d′ o′ : List ℕ) (e
       let q : r .own ≡ (s .own + lengthAt (s .own) b) % length b = rw c at (ap (λ (x : AtOnce). x .own) e) in
       omega (arith, q, mod-lt (s .own + lengthAt (s .own) b) {m = length b} (omega arith), i .low, i .high)
 
-  pub received : Received s o d b r d′ o′
-  received =
+  pub whole-received : WholeReceived s o d b r d′ o′
+  whole-received =
       let steps = receive-method s o d b (idle (length b) s) r d′ o′ refl e in
       record {
         from-idle = received-idle;
         own-fits = received-own;
-        moved = λ z x q. rw (steps, z, q);
-        stayed = λ z. rw (steps, z);
+        own-moves = λ z x q. rw (steps, z, q);
+        state-stays = λ z. rw (steps, z);
       }

@@ -16,12 +16,12 @@ use Rattle.side.proofs.receiving.lay.Tie as tie
 returns : tie.Need-returns
 unfolding stateOf
 returns c =
-    let laid = c .before .before in
-    let start = laid .before .before .before .before .before .before in
+    let after-lay = c .before .before in
+    let start = after-lay .before .before .before .before .before .before in
     let a = start .args in
     let q = start .pre in
     let w = now (a .w) in
-    let l = laid .lay-copy .ensures in
+    let l = after-lay .lay-copy .ensures in
     let m : length (drop 4 w) ≡ 256 = simp length-drop (omega arith) in
     let o = rw (to-end, q .4 ∙ copy-at 0 w, q .5 ∙ copy-at 1 w) at (l .0) in
     let z : 2 + length (take (a .len - 2) (drop 2 (drop 4 w))) ≡ a .len = simp (length-take, length-drop) (omega arith) in

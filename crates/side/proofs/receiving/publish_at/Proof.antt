@@ -10,16 +10,16 @@ use Rattle.channel.specs.declared.state.Counts.{Counts}
 use Rattle.channel.proofs.Going.{Going}
 use Rattle.channel.proofs.Steps.{moves-head, moves-none, publish-going, publish-long, publish-room}
 use Rattle.side.specs.Words.{stateOf}
-use Rattle.side.proofs.InWords.{counted-past, n-is, words-publish}
+use Rattle.side.proofs.InWords.{counts-past, n-is, words-publish}
 use Rattle.side.proofs.receiving.publish_at.Statement.{statement}
 use Rattle.side.proofs.receiving.publish_at.Tie as tie
 
 -- where the state's numbers are taken, and where the call starts
-abbrev counted : tie.After-publish-number → tie.After-counts-of
-counted q = q .before .before .before
+abbrev after-counts : tie.After-publish-number → tie.After-counts-of
+after-counts q = q .before .before .before
 
 abbrev start : tie.After-publish-number → tie.Start
-start q = counted q .before .before .before .before .before
+start q = after-counts q .before .before .before .before .before
 
 -- the number is that of a publish
 number :
@@ -27,7 +27,7 @@ number :
     → let a = start q .args in
     q .publish-number .result
     ≡ publishNumberOf (stateOf (now (a .w))) (length (now (a .out))) (length (now (a .desc))) (a .n)
-number q = rw (counted q .counts-of .ensures, words-publish) at (q .publish-number .ensures)
+number q = rw (after-counts q .counts-of .ensures, words-publish) at (q .publish-number .ensures)
 
 returns : tie.Need-returns
 unfolding publishBy
@@ -41,19 +41,19 @@ room : (c : tie.Else1) → 256 ≤ length (now (start (c .before) .args .out))
 room c = publish-room _ _ _ _ _ (number (c .before)) (moves-head (c .before .publish-number .result) _ (c .if1 .left))
 
 -- L as it was taken of the state
-len-is : (c : tie.Else1) → counted (c .before) .counts-of .result .len ≡ stateOf (now (start (c .before) .args .w)) .len
-len-is c = ap (λ (x : Counts). x .len) (counted (c .before) .counts-of .ensures)
+len-is : (c : tie.Else1) → after-counts (c .before) .counts-of .result .len ≡ stateOf (now (start (c .before) .args .w)) .len
+len-is c = ap (λ (x : Counts). x .len) (after-counts (c .before) .counts-of .ensures)
 
 returns-2 : tie.Need-returns-2
 unfolding publishBy
 returns-2 c b e =
-    let published = c .before .before .before .before in
-    let placed = published .before .before in
-    let malformed = placed .before in
+    let after-publish = c .before .before .before .before in
+    let after-past = after-publish .before .before in
+    let malformed = after-past .before in
     let f = malformed .before in
     let w = now (start (f .before) .args .w) in
-    let p = placed .past .ensures .0 ∙ counted-past _ _ _ (counted (f .before) .counts-of .ensures) (fits f) in
-    simp (e, ← number (f .before), malformed .if2 .taken, published .publish-head .ensures, c .rest-at .ensures, p, n-is w)
+    let p = after-past .past .ensures .0 ∙ counts-past _ _ _ (after-counts (f .before) .counts-of .ensures) (fits f) in
+    simp (e, ← number (f .before), malformed .if2 .taken, after-publish .publish-head .ensures, c .rest-at .ensures, p, n-is w)
 
 -- a number that is not 13 is 0, and then the message has at least two dwords
 zero : (c : tie.Else2) → c .before .before .publish-number .result ≡ 0
@@ -71,14 +71,14 @@ lay-requires c κs =
 returns-3 : tie.Need-returns-3
 unfolding publishBy
 returns-3 c b e =
-    let published = c .before .before .before .before in
-    let laid = published .before .before .before .before in
-    let s = laid .before .before .before .before in
+    let after-publish = c .before .before .before .before in
+    let after-lay = after-publish .before .before .before .before in
+    let s = after-lay .before .before .before .before in
     let f = s .before in
     let w = now (start (f .before) .args .w) in
-    let l = laid .lay .ensures in
-    let p = l .1 ∙ counted-past _ _ _ (counted (f .before) .counts-of .ensures) (fits f) in
-    simp (e, ← number (f .before), zero s, published .publish-head2 .ensures, c .rest-at2 .ensures, p, l .0, len-is f, n-is w)
+    let l = after-lay .lay .ensures in
+    let p = l .1 ∙ counts-past _ _ _ (after-counts (f .before) .counts-of .ensures) (fits f) in
+    simp (e, ← number (f .before), zero s, after-publish .publish-head2 .ensures, c .rest-at2 .ensures, p, l .0, len-is f, n-is w)
 
 pub publish-at-spec : {M : Type 1} → statement M
 publish-at-spec =

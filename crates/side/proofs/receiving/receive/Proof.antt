@@ -8,44 +8,45 @@ use borrow.Author.Needs.{needs}
 use Rattle.channel.specs.declared.state.Counts.{Counts}
 use Rattle.side.specs.Words.{stateOf}
 use Rattle.side.proofs.InWords.{idle-own, idle-words}
-use Rattle.side.proofs.Wholes.{Received, received}
+use Rattle.side.proofs.Wholes.{WholeReceived, whole-received}
 use Rattle.side.proofs.receiving.receive.Statement.{statement}
 use Rattle.side.proofs.receiving.receive.Tie as tie
 
 -- where the receive at once is made, and where the call starts
-abbrev called : tie.After-struct-known2 → tie.After-whole-receive
-called c = c .before .before .before .before .before .before
+abbrev after-whole : tie.After-struct-known2 → tie.After-whole-receive
+after-whole c = c .before .before .before .before .before .before
 
 abbrev start : tie.After-whole-receive → tie.Start
 start q =
-    let counted = q .before .before .before .before .before .before in
-    counted .before .before .before .before .before .before
+    let after-counts = q .before .before .before .before .before .before in
+    after-counts .before .before .before .before .before .before
 
 -- what the receive at once says of the side in its words
 said :
     (q : tie.After-whole-receive)
     → let a = start q .args in
     let l = q .whole-receive .last .1 .1 in
-    Received (stateOf (now (a .w))) (now (a .out)) (now (a .desc)) (now (a .buf)) (q .whole-receive .result) (l .0) (l .1 .1 .0)
+    WholeReceived (stateOf (now (a .w))) (now (a .out)) (now (a .desc)) (now (a .buf))
+    (q .whole-receive .result) (l .0) (l .1 .1 .0)
 said q =
-    let told = q .before .before .before in
-    let own = ap (λ (x : Counts). x .own) (told .before .before .before .counts-of .ensures) in
-    received _ _ _ _ _ _ _ (rw (told .is-idle .ensures, own) at (q .whole-receive .ensures))
+    let after-idle = q .before .before .before in
+    let own = ap (λ (x : Counts). x .own) (after-idle .before .before .before .counts-of .ensures) in
+    whole-received _ _ _ _ _ _ _ (rw (after-idle .is-idle .ensures, own) at (q .whole-receive .ensures))
 
 cast-w : tie.Need-cast-w
-cast-w c = omega (arith, said (called (c .before .before)) .own-fits (c .before .if1 .taken))
+cast-w c = omega (arith, said (after-whole (c .before .before)) .own-fits (c .before .if1 .taken))
 
 returns : tie.Need-returns
 returns c =
-    let q = called (c .before .before) in
+    let q = after-whole (c .before .before) in
     let z = c .before .if1 .taken in
     let a = start q .args in
     let h : length (now (a .w)) ≡ 260 = search needs in
     let i = idle-words (length (now (a .buf))) (now (a .w)) h (said q .from-idle z) in
-    said q .moved z _ (idle-own (q .whole-receive .result .own) (now (a .w)) h i)
+    said q .own-moves z _ (idle-own (q .whole-receive .result .own) (now (a .w)) h i)
 
 returns-2 : tie.Need-returns-2
-returns-2 c = said (called (c .before)) .stayed (c .if1 .left)
+returns-2 c = said (after-whole (c .before)) .state-stays (c .if1 .left)
 
 pub receive-spec : {M : Type 1} → statement M
 receive-spec =

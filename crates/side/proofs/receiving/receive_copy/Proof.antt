@@ -11,16 +11,16 @@ use Rattle.channel.specs.Receive
 use Rattle.channel.specs.declared.state.Counts.{Counts}
 use Rattle.channel.proofs.Going.{Going, going-receive, going-test}
 use Rattle.side.specs.Words.{stateOf}
-use Rattle.side.proofs.InWords.{copy-set, counted-place, words-receiving}
+use Rattle.side.proofs.InWords.{copy-set, counts-place, words-receiving}
 use Rattle.side.proofs.receiving.receive_copy.Statement.{statement}
 use Rattle.side.proofs.receiving.receive_copy.Tie as tie
 
 -- where the state's numbers are taken, and where the call starts
-abbrev counted : tie.After-receiving-number → tie.After-counts-of
-counted q = q .before .before .before .before
+abbrev after-counts : tie.After-receiving-number → tie.After-counts-of
+after-counts q = q .before .before .before .before
 
 abbrev start : tie.After-receiving-number → tie.Start
-start q = counted q .before .before .before .before .before
+start q = after-counts q .before .before .before .before .before
 
 -- the number is that of a move
 number :
@@ -30,7 +30,7 @@ number :
 unfolding Receive.moveNumber
 number q =
     let rest = q .before .before .need .ensures in
-    rw (rest, counted q .counts-of .ensures, words-receiving) at (q .receiving-number .ensures)
+    rw (rest, after-counts q .counts-of .ensures, words-receiving) at (q .receiving-number .ensures)
 
 returns : tie.Need-returns
 unfolding Receive.moveBy
@@ -46,10 +46,10 @@ unfolding Receive.moveNumber
 more c = ltb-true _ _ (going-test _ _ _ _ (sym (number (c .before)) ∙ c .if1 .left))
 
 moved-is :
-    (c : tie.Else1) → counted (c .before) .counts-of .result .moved ≡ stateOf (now (start (c .before) .args .w)) .moved
-moved-is c = ap (λ (x : Counts). x .moved) (counted (c .before) .counts-of .ensures)
+    (c : tie.Else1) → after-counts (c .before) .counts-of .result .moved ≡ stateOf (now (start (c .before) .args .w)) .moved
+moved-is c = ap (λ (x : Counts). x .moved) (after-counts (c .before) .counts-of .ensures)
 
-below : (c : tie.Else1) → counted (c .before) .counts-of .result .moved < 256
+below : (c : tie.Else1) → after-counts (c .before) .counts-of .result .moved < 256
 below c = omega (arith, more c, moved-is c, fits c .short)
 
 returns-2 : tie.Need-returns-2
@@ -60,7 +60,7 @@ returns-2 c =
     let w = now (a .w) in
     let b = now (a .buf) in
     let v = getD b ((stateOf w .own + stateOf w .moved) % length b) 0 in
-    let p = c .before .past .ensures .0 ∙ counted-place _ _ _ (counted (e .before) .counts-of .ensures) (fits e) in
+    let p = c .before .past .ensures .0 ∙ counts-place _ _ _ (after-counts (e .before) .counts-of .ensures) (fits e) in
     simp (← number (e .before), e .if1 .left, c .dword-at .ensures, p, moved-is e, copy-set v w (search needs))
 
 pub receive-copy-spec : {M : Type 1} → statement M

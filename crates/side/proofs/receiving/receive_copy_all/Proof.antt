@@ -15,11 +15,11 @@ use Rattle.side.proofs.receiving.receive_copy_all.Statement.{statement}
 use Rattle.side.proofs.receiving.receive_copy_all.Tie as tie
 
 -- where the state's numbers are taken, and where the call starts
-abbrev counted : tie.After-receiving-number → tie.After-counts-of
-counted q = q .before .before
+abbrev after-counts : tie.After-receiving-number → tie.After-counts-of
+after-counts q = q .before .before
 
 abbrev start : tie.After-receiving-number → tie.Start
-start q = counted q .before .before .before .before .before
+start q = after-counts q .before .before .before .before .before
 
 -- its number is 1, 2 or 3, or 0
 number :
@@ -27,7 +27,7 @@ number :
     → let a = start q .args in
     q .receiving-number .result ≡ Receive.goOnNumber (stateOf (now (a .w))) (now (a .desc)) (now (a .buf))
 unfolding Receive.goOnNumber
-number q = rw (counted q .counts-of .ensures, words-receiving) at (q .receiving-number .ensures)
+number q = rw (after-counts q .counts-of .ensures, words-receiving) at (q .receiving-number .ensures)
 
 returns : tie.Need-returns
 returns c = all-refused Receive.move _ _ _ _ _ (number (c .before)) (c .if1 .taken)
@@ -47,19 +47,19 @@ copy-left-requires : tie.Need-copy-left-requires
 copy-left-requires c κs =
     let e = c .before in
     let g = fits e in
-    rw (counted (e .before) .counts-of .ensures)
+    rw (after-counts (e .before) .counts-of .ensures)
     (search needs, g .within, g .short, g .own, g .low, g .high)
 
 cast-w : tie.Need-cast-w
 cast-w c =
     let e = c .before .before in
-    rw (counted (e .before) .counts-of .ensures) (omega (arith, fits e .short))
+    rw (after-counts (e .before) .counts-of .ensures) (omega (arith, fits e .short))
 
 returns-2 : tie.Need-returns-2
 returns-2 c =
     let e = c .before .before in
     let a = start (e .before) .args in
-    let s = counted (e .before) .counts-of .ensures in
+    let s = after-counts (e .before) .counts-of .ensures in
     let copied = rw s at (c .copy-left .ensures) in
     rw s (all-copied (now (a .w)) (now (a .desc)) (now (a .buf)) (search needs) _ (accepted e) copied)
 

@@ -18,8 +18,8 @@ use Rattle.side.proofs.receiving.receive_look.Tie as tie
 -- where the call starts
 abbrev start : tie.After-receive-decision → tie.Start
 start q =
-    let counted = q .before .before .before .before .before in
-    counted .before .before .before .before .before
+    let after-counts = q .before .before .before .before .before in
+    after-counts .before .before .before .before .before
 
 -- what the look answers
 said :
@@ -28,17 +28,17 @@ said :
     let s = stateOf (now (a .w)) in
     q .receive-decision .result ≡ judgedHeader (Receive.lookNumber s (now (a .desc)) (now (a .buf))) (s .own) (now (a .buf))
 said q =
-    let told = q .before .before in
-    let own = ap (λ (x : Counts). x .own) (told .before .before .before .counts-of .ensures) in
-    rw (told .is-idle .ensures, own) at (q .receive-decision .ensures)
+    let after-idle = q .before .before in
+    let own = ap (λ (x : Counts). x .own) (after-idle .before .before .before .counts-of .ensures) in
+    rw (after-idle .is-idle .ensures, own) at (q .receive-decision .ensures)
 
 returns : tie.Need-returns
 unfolding Receive.lookBy
 returns c =
-    let marked = c .before .before in
-    let refused = marked .before .before in
+    let after-mark = c .before .before in
+    let refused = after-mark .before .before in
     let e = ap (λ (x : JudgedHeader). x .code) (said (refused .before)) in
-    simp (← e, ne-eqb _ _ (refused .if1 .taken), marked .mark .ensures)
+    simp (← e, ne-eqb _ _ (refused .if1 .taken), after-mark .mark .ensures)
 
 returns-2 : tie.Need-returns-2
 unfolding receiveDecision

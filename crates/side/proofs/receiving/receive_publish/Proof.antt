@@ -7,9 +7,9 @@ use Rattle.side.proofs.receiving.receive_publish.Tie as tie
 
 returns : tie.Need-returns
 returns c =
-    let published = c .before .before .before .before in
-    let start = published .before .before .before .before .before .before .before in
-    published .publish-at .ensures (now (start .args .buf)) refl
+    let after-publish = c .before .before .before .before in
+    let start = after-publish .before .before .before .before .before .before .before in
+    after-publish .publish-at .ensures (now (start .args .buf)) refl
 
 pub receive-publish-spec : {M : Type 1} → statement M
 receive-publish-spec =

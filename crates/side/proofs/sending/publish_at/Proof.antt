@@ -11,16 +11,16 @@ use Rattle.channel.specs.State.{activeSend}
 use Rattle.channel.proofs.Going.{Going, going-send}
 use lib.Dec.{leb}
 use Rattle.side.specs.Words.{stateOf}
-use Rattle.side.proofs.InWords.{counted-past, n-is, words-sending}
+use Rattle.side.proofs.InWords.{counts-past, n-is, words-sending}
 use Rattle.side.proofs.sending.publish_at.Statement.{statement}
 use Rattle.side.proofs.sending.publish_at.Tie as tie
 
 -- where the state's numbers are taken, and where the call starts
-abbrev counted : tie.After-sending-number → tie.After-counts-of
-counted q = q .before .before .before .before
+abbrev after-counts : tie.After-sending-number → tie.After-counts-of
+after-counts q = q .before .before .before .before
 
 abbrev start : tie.After-sending-number → tie.Start
-start q = counted q .before .before .before .before
+start q = after-counts q .before .before .before .before
 
 -- the number is that of a publish
 number :
@@ -29,7 +29,7 @@ number :
     let s = stateOf (now (a .w)) in
     q .sending-number .result
     ≡ firstNeeds (length (now (a .desc))) (a .n) (activeSend (a .n) s) (need (leb (s .len) (s .moved)) 12 0)
-number q = rw (counted q .counts-of .ensures, words-sending) at (q .sending-number .ensures)
+number q = rw (after-counts q .counts-of .ensures, words-sending) at (q .sending-number .ensures)
 
 returns : tie.Need-returns
 unfolding Send.publishBy Send.publishNumber
@@ -42,13 +42,13 @@ fits c = going-send _ _ _ _ 0 refl refl refl (sym (number (c .before)) ∙ c .if
 returns-2 : tie.Need-returns-2
 unfolding Send.publishBy Send.publishNumber
 returns-2 c b e =
-    let published = c .before .before .before .before in
-    let placed = published .before .before in
-    let goes-on = placed .before in
+    let after-publish = c .before .before .before .before in
+    let after-past = after-publish .before .before in
+    let goes-on = after-past .before in
     let q = goes-on .before in
     let w = now (start q .args .w) in
-    let p = placed .past .ensures .0 ∙ counted-past _ _ _ (counted q .counts-of .ensures) (fits goes-on) in
-    simp (e, ← number q, goes-on .if1 .left, published .publish-tail .ensures, c .rest-at .ensures, p, n-is w)
+    let p = after-past .past .ensures .0 ∙ counts-past _ _ _ (after-counts q .counts-of .ensures) (fits goes-on) in
+    simp (e, ← number q, goes-on .if1 .left, after-publish .publish-tail .ensures, c .rest-at .ensures, p, n-is w)
 
 pub publish-at-spec : {M : Type 1} → statement M
 publish-at-spec =

@@ -20,8 +20,8 @@ use Rattle.side.proofs.sending.send_look.Tie as tie
 -- where the call starts
 abbrev start : tie.After-send-decision → tie.Start
 start q =
-    let counted = q .before .before .before .before .before .before .before in
-    counted .before .before .before .before .before .before
+    let after-counts = q .before .before .before .before .before .before .before in
+    after-counts .before .before .before .before .before .before
 
 -- the number is that of a look at the message
 number :
@@ -31,16 +31,16 @@ number :
 number q =
     let word = q .before .before .dword-at2 .ensures in
     let header = q .before .before .before .dword-at .ensures in
-    let told = q .before .before .before .before in
-    let own = ap (λ (x : Counts). x .own) (told .before .before .before .counts-of .ensures) in
-    rw (word, header, told .is-idle .ensures, own) at (q .send-decision .ensures)
+    let after-idle = q .before .before .before .before in
+    let own = ap (λ (x : Counts). x .own) (after-idle .before .before .before .counts-of .ensures) in
+    rw (word, header, after-idle .is-idle .ensures, own) at (q .send-decision .ensures)
 
 returns : tie.Need-returns
 unfolding Send.lookBy
 returns c =
-    let marked = c .before .before in
-    let refused = marked .before .before in
-    simp (← number (refused .before), ne-eqb _ _ (refused .if1 .taken), marked .mark .ensures)
+    let after-mark = c .before .before in
+    let refused = after-mark .before .before in
+    simp (← number (refused .before), ne-eqb _ _ (refused .if1 .taken), after-mark .mark .ensures)
 
 -- what an accepted look has
 has :

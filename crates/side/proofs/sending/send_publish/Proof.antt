@@ -7,8 +7,8 @@ use Rattle.side.proofs.sending.send_publish.Tie as tie
 
 returns : tie.Need-returns
 returns c =
-    let published = c .before .before in
-    published .publish-at .ensures (now (published .before .before .before .before .before .args .buf)) refl
+    let after-publish = c .before .before in
+    after-publish .publish-at .ensures (now (after-publish .before .before .before .before .before .args .buf)) refl
 
 pub send-publish-spec : {M : Type 1} → statement M
 send-publish-spec =

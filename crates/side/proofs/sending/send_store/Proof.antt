@@ -11,16 +11,16 @@ use Rattle.channel.specs.Send
 use Rattle.channel.specs.declared.state.Counts.{Counts}
 use Rattle.channel.proofs.Going.{Going, going-send, going-test}
 use Rattle.side.specs.Words.{stateOf}
-use Rattle.side.proofs.InWords.{counted-place, moved-set, words-sending}
+use Rattle.side.proofs.InWords.{counts-place, moved-set, words-sending}
 use Rattle.side.proofs.sending.send_store.Statement.{statement}
 use Rattle.side.proofs.sending.send_store.Tie as tie
 
 -- where the state's numbers are taken, and where the call starts
-abbrev counted : tie.After-sending-number → tie.After-counts-of
-counted q = q .before .before .before .before
+abbrev after-counts : tie.After-sending-number → tie.After-counts-of
+after-counts q = q .before .before .before .before
 
 abbrev start : tie.After-sending-number → tie.Start
-start q = counted q .before .before .before .before .before
+start q = after-counts q .before .before .before .before .before
 
 -- the number is that of a move
 number :
@@ -28,7 +28,7 @@ number :
     → let a = start q .args in
     q .sending-number .result ≡ Send.moveNumber (stateOf (now (a .w))) (now (a .desc)) (now (a .buf))
 unfolding Send.moveNumber
-number q = rw (counted q .counts-of .ensures, words-sending) at (q .sending-number .ensures)
+number q = rw (after-counts q .counts-of .ensures, words-sending) at (q .sending-number .ensures)
 
 returns : tie.Need-returns
 unfolding Send.moveBy
@@ -44,10 +44,10 @@ unfolding Send.moveNumber
 more c = ltb-true _ _ (going-test _ _ _ _ (sym (number (c .before)) ∙ c .if1 .left))
 
 moved-is :
-    (c : tie.Else1) → counted (c .before) .counts-of .result .moved ≡ stateOf (now (start (c .before) .args .w)) .moved
-moved-is c = ap (λ (x : Counts). x .moved) (counted (c .before) .counts-of .ensures)
+    (c : tie.Else1) → after-counts (c .before) .counts-of .result .moved ≡ stateOf (now (start (c .before) .args .w)) .moved
+moved-is c = ap (λ (x : Counts). x .moved) (after-counts (c .before) .counts-of .ensures)
 
-below : (c : tie.Else1) → counted (c .before) .counts-of .result .moved < 256
+below : (c : tie.Else1) → after-counts (c .before) .counts-of .result .moved < 256
 below c = omega (arith, moved-is c, more c, fits c .short)
 
 copy-dword-requires : tie.Need-copy-dword-requires
@@ -56,22 +56,22 @@ copy-dword-requires c κs = (refl, refl, omega (arith, below (c .before .before)
 -- the step that goes on, from behind its store
 abbrev goes-on : tie.After-slice-known2 → tie.Else1
 goes-on c =
-    let copied = c .before .before .before .before .before in
-    copied .before .before .before
+    let after-copy = c .before .before .before .before .before in
+    after-copy .before .before .before
 
 returns-2 : tie.Need-returns-2
 unfolding Send.moveBy
 returns-2 c =
     let e = goes-on c in
     let w = now (start (e .before) .args .w) in
-    let put = c .before .before in
-    let p = put .before .past .ensures .0 ∙ counted-place _ _ _ (counted (e .before) .counts-of .ensures) (fits e) in
+    let after-put = c .before .before in
+    let p = after-put .before .past .ensures .0 ∙ counts-place _ _ _ (after-counts (e .before) .counts-of .ensures) (fits e) in
     simp (
       ← number (e .before),
       e .if1 .left,
-      put .put .ensures,
+      after-put .put .ensures,
       p,
-      put .before .before .before .copy-dword .ensures,
+      after-put .before .before .before .copy-dword .ensures,
       moved-is e,
       moved-set (stateOf w .moved + 1) w (search needs),
     )

@@ -16,11 +16,11 @@ use Rattle.side.proofs.sending.send_store_all.Statement.{statement}
 use Rattle.side.proofs.sending.send_store_all.Tie as tie
 
 -- where the state's numbers are taken, and where the call starts
-abbrev counted : tie.After-sending-number → tie.After-counts-of
-counted q = q .before .before .before
+abbrev after-counts : tie.After-sending-number → tie.After-counts-of
+after-counts q = q .before .before .before
 
 abbrev start : tie.After-sending-number → tie.Start
-start q = counted q .before .before .before .before .before
+start q = after-counts q .before .before .before .before .before
 
 -- its number is 1, 2 or 3, or 0
 number :
@@ -28,7 +28,7 @@ number :
     → let a = start q .args in
     q .sending-number .result ≡ Send.goOnNumber (stateOf (now (a .w))) (now (a .desc)) (now (a .buf))
 unfolding Send.goOnNumber need
-number q = rw (counted q .counts-of .ensures, words-sending) at (q .sending-number .ensures)
+number q = rw (after-counts q .counts-of .ensures, words-sending) at (q .sending-number .ensures)
 
 returns : tie.Need-returns
 returns c = all-refused Send.move _ _ _ _ _ (number (c .before)) (c .if1 .taken)
@@ -52,19 +52,19 @@ store-left-requires : tie.Need-store-left-requires
 store-left-requires c κs =
     let e = c .before .before .before in
     let g = fits e in
-    rw (counted (e .before) .counts-of .ensures)
+    rw (after-counts (e .before) .counts-of .ensures)
     (search needs, refl, refl, g .within, send-two _ _ _ (accepted e), g .short, g .own, g .low, g .high)
 
 cast-w : tie.Need-cast-w
 cast-w c =
     let e = goes-on c in
-    rw (counted (e .before) .counts-of .ensures) (omega (arith, fits e .short))
+    rw (after-counts (e .before) .counts-of .ensures) (omega (arith, fits e .short))
 
 returns-2 : tie.Need-returns-2
 returns-2 c =
     let e = goes-on c in
     let a = start (e .before) .args in
-    let s = counted (e .before) .counts-of .ensures in
+    let s = after-counts (e .before) .counts-of .ensures in
     let stored = rw s at (c .before .before .store-left .ensures) in
     rw s (all-stored (now (a .w)) (now (a .desc)) (now (a .buf)) (search needs) _ (accepted e) stored)
 

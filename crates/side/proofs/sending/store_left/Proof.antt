@@ -16,29 +16,29 @@ use Rattle.side.proofs.sending.store_left.Tie as tie
 returns : tie.Need-returns
 unfolding stateOf
 returns c =
-    let stored = c .before .before in
-    let none-moved = stored .before .before .before in
+    let after-store = c .before .before in
+    let none-moved = after-store .before .before .before in
     let start = none-moved .before .before .before .before in
     let a = start .args in
     let w = now (a .w) in
     let f = copy-long w (start .pre .0) in
-    let e = rw (to-end, start .pre .1 ∙ copy-at 0 w, start .pre .2 ∙ copy-at 1 w) at (stored .store-message .ensures .0) in
+    let e = rw (to-end, start .pre .1 ∙ copy-at 0 w, start .pre .2 ∙ copy-at 1 w) at (after-store .store-message .ensures .0) in
     let all = stored-all (now (a .buf)) (drop 4 w) (a .own) (a .len) in
     rw (none-moved .if1 .taken) (e ∙ all (omega arith) (omega arith) (omega arith) (omega arith) (omega arith))
 
 returns-2 : tie.Need-returns-2
 unfolding stateOf
 returns-2 c =
-    let rest-stored = c .before .before in
-    let second-stored = rest-stored .before .before .before .before .before .before in
-    let one-moved = second-stored .before .before .before in
+    let after-store = c .before .before in
+    let after-put = after-store .before .before .before .before .before .before in
+    let one-moved = after-put .before .before .before in
     let start = one-moved .before .before .before .before .before in
     let a = start .args in
     let w = now (a .w) in
     let f = copy-long w (start .pre .0) in
-    let p = second-stored .before .past .ensures .0 in
-    let p₂ = rest-stored .before .before .past2 .ensures .0 in
-    let e = rw (to-end, second-stored .put .ensures, p, p₂, start .pre .2 ∙ copy-at 1 w) at (rest-stored .store-dwords .ensures) in
+    let p = after-put .before .past .ensures .0 in
+    let p₂ = after-store .before .before .past2 .ensures .0 in
+    let e = rw (to-end, after-put .put .ensures, p, p₂, start .pre .2 ∙ copy-at 1 w) at (after-store .store-dwords .ensures) in
     let second = stored-second (now (a .buf)) (drop 4 w) (a .own) (a .len) in
     rw (one-moved .if2 .taken) (e ∙ second (omega arith) (omega arith) (omega arith) (omega arith) (omega arith))
 
@@ -46,8 +46,8 @@ returns-3 : tie.Need-returns-3
 unfolding stateOf
 returns-3 c =
     let start =
-    let placed = c .before .before .before .before in
-    placed .before .before .before .before .before .before .before in
+    let after-past = c .before .before .before .before in
+    after-past .before .before .before .before .before .before .before in
     let a = start .args in
     let m = drop 4 (now (a .w)) in
     let f = copy-long (now (a .w)) (start .pre .0) in

@@ -5,42 +5,43 @@ use denote.Ref.{now}
 use borrow.Author.Needs.{needs}
 use Rattle.side.specs.Words.{wholeOf}
 use Rattle.side.proofs.TwoWords.{own-whole}
-use Rattle.side.proofs.Wholes.{Received, received}
+use Rattle.side.proofs.Wholes.{WholeReceived, whole-received}
 use Rattle.side.proofs.whole.whole_receive.Statement.{statement}
 use Rattle.side.proofs.whole.whole_receive.Tie as tie
 
 -- where the receive at once is made, and where the call starts
-abbrev called : tie.After-struct-known2 → tie.After-whole-receive
-called c = c .before .before .before .before .before .before
+abbrev after-whole : tie.After-struct-known2 → tie.After-whole-receive
+after-whole c = c .before .before .before .before .before .before
 
 abbrev start : tie.After-whole-receive → tie.Start
 start q =
-    let told = q .before .before .before in
-    told .before .before .before .before .before .before .before
+    let after-fits = q .before .before .before in
+    after-fits .before .before .before .before .before .before .before
 
 -- what the receive at once says of the side in its words
 said :
     (q : tie.After-whole-receive)
     → let a = start q .args in
     let l = q .whole-receive .last .1 .1 in
-    Received (wholeOf (now (a .w))) (now (a .out)) (now (a .desc)) (now (a .buf)) (q .whole-receive .result) (l .0) (l .1 .1 .0)
+    WholeReceived (wholeOf (now (a .w))) (now (a .out)) (now (a .desc)) (now (a .buf))
+    (q .whole-receive .result) (l .0) (l .1 .1 .0)
 unfolding wholeOf
 said q =
-    let told = q .before .before .before in
-    let numbers = told .before .numbers-of .ensures in
-    received _ _ _ _ _ _ _ (rw (told .fits-whole .ensures, numbers .0, numbers .1) at (q .whole-receive .ensures))
+    let after-fits = q .before .before .before in
+    let numbers = after-fits .before .numbers-of .ensures in
+    whole-received _ _ _ _ _ _ _ (rw (after-fits .fits-whole .ensures, numbers .0, numbers .1) at (q .whole-receive .ensures))
 
 cast-w : tie.Need-cast-w
-cast-w c = omega (arith, said (called (c .before .before)) .own-fits (c .before .if1 .taken))
+cast-w c = omega (arith, said (after-whole (c .before .before)) .own-fits (c .before .if1 .taken))
 
 returns : tie.Need-returns
 returns c =
-    let q = called (c .before .before) in
+    let q = after-whole (c .before .before) in
     let w = now (start q .args .w) in
-    said q .moved (c .before .if1 .taken) _ (own-whole (q .whole-receive .result .own) w (search needs))
+    said q .own-moves (c .before .if1 .taken) _ (own-whole (q .whole-receive .result .own) w (search needs))
 
 returns-2 : tie.Need-returns-2
-returns-2 c = said (called (c .before)) .stayed (c .if1 .left)
+returns-2 c = said (after-whole (c .before)) .state-stays (c .if1 .left)
 
 pub whole-receive-spec : {M : Type 1} → statement M
 whole-receive-spec =

@@ -7,8 +7,8 @@ use Rattle.side.proofs.words.counts_of.Tie as tie
 returns : tie.Need-returns
 unfolding stateOf
 returns c =
-    let own-read = c .before .before .before .before in
-    simp (c .wide4 .ensures, c .before .before .wide3 .ensures, own-read .wide2 .ensures, own-read .before .before .wide .ensures)
+    let after-own = c .before .before .before .before in
+    simp (c .wide4 .ensures, c .before .before .wide3 .ensures, after-own .wide2 .ensures, after-own .before .before .wide .ensures)
 
 pub counts-of-spec : {M : Type 1} → statement M
 counts-of-spec =

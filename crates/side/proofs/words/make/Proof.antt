@@ -7,9 +7,9 @@ use Rattle.side.proofs.words.make.Tie as tie
 
 returns : tie.Need-returns
 returns c =
-    let rested = c .before .before in
-    let start = rested .before .before .before in
-    let r = rested .rest-at in
+    let after-rest = c .before .before in
+    let start = after-rest .before .before .before in
+    let r = after-rest .rest-at in
     made (start .args .n) _ (r .last .0) (r .kept .0 ∙ start .pre) (r .ensures)
 
 pub make-spec : {M : Type 1} → statement M
