@@ -1,4 +1,5 @@
--- All the moves that are left, at once: what they give. The laws by which code that makes them in one call meets its definition. Assumes nothing.
+-- All the moves that are left, at once: what they give. The laws by which code that makes them in one call meets its
+-- definition. Assumes nothing.
 use Prim.Native.Nat.{ℕ, zero, suc, _+_, _-_, _%_, _≤_, _<_}
 use mathlib.Core.Path.{_≡_, refl, ap, _∙_}
 use mathlib.Core.Bool.{Bool, true}
@@ -21,23 +22,30 @@ use Rattle.channel.specs.Receive
 use Rattle.channel.proofs.Going.{receive-active, receive-moved, send-active, send-long}
 
 -- a call that is refused makes no move
-pub all-refused : (move : Move) (s : State) (d b : List ℕ) (c x : ℕ) → c ≡ x → (c ≡ 0 → ⊥) → refused c s d b [] ≡ allMovesBy x move s d b
+pub all-refused :
+    (move : Move) (s : State) (d b : List ℕ) (c x : ℕ) → c ≡ x → (c ≡ 0 → ⊥)
+    → refused c s d b [] ≡ allMovesBy x move s d b
 unfolding allMovesBy
 all-refused move s d b c x e z = rw (← e, ne-eqb c 0 z)
 
 -- moves that go a way, each a step further: from its start on, all that are left lead to its end
 module _ (move : Move) (way : ℕ → Outcome) where
-  in-turn : (j k l : ℕ) → ((i : ℕ) → i < l → moveAfter move (way i) ≡ way (i + 1)) → k + j ≤ l → moves move j (way k) ≡ way (k + j)
+  in-turn :
+      (j k l : ℕ) → ((i : ℕ) → i < l → moveAfter move (way i) ≡ way (i + 1)) → k + j ≤ l
+      → moves move j (way k) ≡ way (k + j)
   unfolding moves
   in-turn zero k l f h = ap way (omega arith)
-  in-turn (suc j) k l f h = ap (moves move j) (f k (omega arith)) ∙ in-turn j (k + 1) l f (omega arith) ∙ ap way (omega arith)
+  in-turn (suc j) k l f h =
+      ap (moves move j) (f k (omega arith)) ∙ in-turn j (k + 1) l f (omega arith) ∙ ap way (omega arith)
 
   to-the-end :
       (s : State) (d b : List ℕ) (c : ℕ) → c ≡ 0 → atFirst s d b ≡ way 0
-      → ((i : ℕ) → i < s .len - s .moved → moveAfter move (way i) ≡ way (i + 1)) → allMovesBy c move s d b ≡ way (s .len - s .moved)
+      → ((i : ℕ) → i < s .len - s .moved → moveAfter move (way i) ≡ way (i + 1))
+      → allMovesBy c move s d b ≡ way (s .len - s .moved)
   unfolding allMovesBy
   to-the-end s d b c z e f =
-      rw z (ap (moves move (s .len - s .moved)) e ∙ in-turn (s .len - s .moved) 0 (s .len - s .moved) f (omega arith) ∙ ap way (omega arith))
+      let k = s .len - s .moved in
+      rw z (ap (moves move k) e ∙ in-turn k 0 k f (omega arith) ∙ ap way (omega arith))
 
 -- what a call that goes on has, of a send and of a receive
 module _ (s : State) (d b : List ℕ) where
@@ -79,7 +87,14 @@ module _ (s : State) (d b : List ℕ) where
 
   sent : ℕ → Outcome
   sent k =
-      record { code = 0; len = 0; next = sending k; desc = d; buf = stored b (length b) place (take k (drop (s .moved) (s .copy))); out = [] }
+      record {
+        code = 0;
+        len = 0;
+        next = sending k;
+        desc = d;
+        buf = stored b (length b) place (take k (drop (s .moved) (s .copy)));
+        out = [];
+      }
 
   module _ (e : Send.goOnNumber s d b ≡ 0) (long : s .len ≤ length (s .copy)) where
     active-send : (k : ℕ) → s .moved + k ≤ s .len → activeSend (length b) (sending k) ≡ true
@@ -103,7 +118,8 @@ module _ (s : State) (d b : List ℕ) where
         let z = send-number k (omega arith) in
         let p : s .own + (s .moved + k) ≡ s .own + s .moved + k = omega arith in
         let q : s .moved + k + 1 ≡ s .moved + (k + 1) = omega arith in
-        rw (z, stored-length b (length b) place (take k m), p, q, ← getD-drop (s .moved) (s .copy) k 0, stored-take b (length b) place m k l, ← add-one k)
+        let dword = getD-drop (s .moved) (s .copy) k 0 in
+        rw (z, stored-length b (length b) place (take k m), p, q, ← dword, stored-take b (length b) place m k l, ← add-one k)
 
     -- all that is left of the copy lies in the buffer, and is counted
     pub all-sent :
@@ -138,7 +154,8 @@ module _ (s : State) (d b : List ℕ) where
     copied-header : (k : ℕ) → getD (copied k) 0 0 ≡ header s
     unfolding copied
     copied-header k =
-        let l : length (take (s .moved) (s .copy)) ≡ s .moved = length-take-le (s .moved) (s .copy) (omega (arith, receive-within s d b e)) in
+        let w = receive-within s d b e in
+        let l : length (take (s .moved) (s .copy)) ≡ s .moved = length-take-le (s .moved) (s .copy) (omega (arith, w)) in
         let o = receive-moved (length b) s (receive-fits s d b e) in
         List·getD-append (take (s .moved) (s .copy)) _ 0 0 (omega arith) ∙ getD-take (s .moved) (s .copy) 0 0 o
 
@@ -155,17 +172,30 @@ module _ (s : State) (d b : List ℕ) where
     unfolding Receive.moveNumber Receive.goOnNumber taking
     receive-number k h = again _ _ _ _ _ _ e (active-receive k (omega arith)) (tested _ 12 (lt-ltb _ _ h))
 
-    copied-more : (k : ℕ) → s .moved + k < s .len → set (copied k) (s .moved + k) (getD b ((s .own + (s .moved + k)) % length b) 0) ≡ copied (k + 1)
+    copied-more :
+        (k : ℕ) → s .moved + k < s .len
+        → set (copied k) (s .moved + k) (getD b ((s .own + (s .moved + k)) % length b) 0) ≡ copied (k + 1)
     unfolding copied place window
     copied-more k h =
         let x = take (s .moved) (s .copy) in
         let y = window b (length b) place k in
         let v = getD b ((s .own + (s .moved + k)) % length b) 0 in
         let z = drop (suc (s .moved + k)) (s .copy) in
-        let l : length (x ++ y) ≡ s .moved + k = simp length-append (omega (arith, length-take-le (s .moved) (s .copy) (omega arith), window-length b (length b) place k)) in
+        let lx = length-take-le (s .moved) (s .copy) (omega arith) in
+        let ly = window-length b (length b) place k in
+        let l : length (x ++ y) ≡ s .moved + k = simp length-append (omega (arith, lx, ly)) in
         let q : s .moved + (k + 1) ≡ suc (s .moved + k) = omega arith in
         let p : s .own + (s .moved + k) ≡ s .own + s .moved + k = omega arith in
-        rw (drop-cons (s .copy) (s .moved + k) 0 (omega arith), ← append-assoc x y _, set-at (x ++ y) _ z v (s .moved + k) l, append-assoc, q, window-append, append-assoc, p)
+        rw (
+          drop-cons (s .copy) (s .moved + k) 0 (omega arith),
+          ← append-assoc x y _,
+          set-at (x ++ y) _ z v (s .moved + k) l,
+          append-assoc,
+          q,
+          window-append,
+          append-assoc,
+          p,
+        )
 
     taken-more : (k : ℕ) → k < s .len - s .moved → moveAfter Receive.move (taken k) ≡ taken (k + 1)
     unfolding Receive.moveBy taken taking
@@ -179,7 +209,10 @@ module _ (s : State) (d b : List ℕ) where
         ≡ record {
           code = 0;
           len = 0;
-          next = state (s .n) (s .own) (s .len) (s .len) (take (s .moved) (s .copy) ++ (window b (length b) (s .own + s .moved) (s .len - s .moved) ++ drop (s .len) (s .copy)));
+          next =
+              state (s .n) (s .own) (s .len) (s .len)
+              (take (s .moved) (s .copy)
+              ++ (window b (length b) (s .own + s .moved) (s .len - s .moved) ++ drop (s .len) (s .copy)));
           desc = d;
           buf = b;
           out = [];

@@ -1,4 +1,5 @@
--- A whole receive at once is its steps one after another: the law by which the code of a whole receive meets its definition. Assumes nothing.
+-- A whole receive at once is its steps one after another: the law by which the code of a whole receive meets its
+-- definition. Assumes nothing.
 use Prim.Native.Nat.{ℕ, zero, suc, _+_, _-_, _%_, _≤_, _<_}
 use mathlib.Core.Path.{_≡_, refl, sym, ap, _∙_, subst}
 use mathlib.Core.Bool.{Bool, true, false, _||_, cond}
@@ -60,98 +61,111 @@ module _ (s : State) (d b : List ℕ) where
   midway : ℕ → Outcome
   midway k = record { code = 0; len = 0; next = taking k; desc = d; buf = b; out = [] }
 
-  module _ (sixteen : length d ≡ 16) (is-allowed : allowed (length b) ≡ true) (same : s .n ≡ length b) (below : s .own < length b) where
-    -- the first dword copied is the header
-    copied-header : (k : ℕ) → 1 ≤ k → getD (taking k .copy) 0 0 ≡ h₀
-    unfolding taking h₀
-    copied-header k l =
-        let z : (s .own + 0) % length b ≡ s .own = ap (λ (x : ℕ). x % length b) (omega arith) ∙ mod-eq-of-lt below in
-        padded (window b (length b) (s .own) k) (256 - k) 0 ∙ window-at b (length b) (s .own) k 0 (omega arith) ∙ ap (λ (x : ℕ). getD b x 0) z
+  module _
+      (sixteen : length d ≡ 16) (is-allowed : allowed (length b) ≡ true) (same : s .n ≡ length b) (below : s .own < length b)
+    where
+      -- the first dword copied is the header
+      copied-header : (k : ℕ) → 1 ≤ k → getD (taking k .copy) 0 0 ≡ h₀
+      unfolding taking h₀
+      copied-header k l =
+          let z : (s .own + 0) % length b ≡ s .own = ap (λ (x : ℕ). x % length b) (omega arith) ∙ mod-eq-of-lt below in
+          padded (window b (length b) (s .own) k) (256 - k) 0 ∙ window-at b (length b) (s .own) k 0 (omega arith)
+          ∙ ap (λ (x : ℕ). getD b x 0) z
 
-    active : (k : ℕ) → 1 ≤ k → k ≤ l₀ → activeReceive (length b) (taking k) ≡ true
-    unfolding taking l₀
-    active k l h =
-        subst (λ (x : ℕ). activeReceive (length b) (record { n = x; own = s .own; len = l₀; moved = k; copy = taking k .copy }) ≡ true) (sym same)
-        (busy-active-receive (length b) (s .own) below l₀ k (taking k .copy) (total-low h₀) (total-high h₀) l h (ap totalLength (sym (copied-header k l))))
+      active : (k : ℕ) → 1 ≤ k → k ≤ l₀ → activeReceive (length b) (taking k) ≡ true
+      unfolding taking l₀
+      active k l h =
+          let c = taking k .copy in
+          let agrees = ap totalLength (sym (copied-header k l)) in
+          subst (λ (x : ℕ). activeReceive (length b) (record { n = x; own = s .own; len = l₀; moved = k; copy = c }) ≡ true)
+          (sym same)
+          (busy-active-receive (length b) (s .own) below l₀ k c (total-low h₀) (total-high h₀) l h agrees)
 
-    first-needs-ok : (t : Bool) (r : ℕ) → t ≡ true → firstNeeds (length d) (length b) t r ≡ r
-    unfolding firstNeeds need
-    first-needs-ok t r e = rw (sixteen, is-allowed, e)
+      first-needs-ok : (t : Bool) (r : ℕ) → t ≡ true → firstNeeds (length d) (length b) t r ≡ r
+      unfolding firstNeeds need
+      first-needs-ok t r e = rw (sixteen, is-allowed, e)
 
-    move-number : (k : ℕ) → 1 ≤ k → k < l₀ → Receive.moveNumber (taking k) d b ≡ 0
-    unfolding Receive.moveNumber taking
-    move-number k l h = first-needs-ok _ _ (active k l (omega arith)) ∙ tested (ltb k l₀) 12 (lt-ltb k l₀ h)
+      move-number : (k : ℕ) → 1 ≤ k → k < l₀ → Receive.moveNumber (taking k) d b ≡ 0
+      unfolding Receive.moveNumber taking
+      move-number k l h = first-needs-ok _ _ (active k l (omega arith)) ∙ tested (ltb k l₀) 12 (lt-ltb k l₀ h)
 
-    copy-more :
-        (k : ℕ) → k < 256
-        → set (window b (length b) (s .own) k ++ replicate (256 - k) 0) k (getD b ((s .own + k) % length b) 0)
-        ≡ window b (length b) (s .own) (k + 1) ++ replicate (256 - (k + 1)) 0
-    unfolding window
-    copy-more k h =
-        let w : List ℕ = window b (length b) (s .own) k in
-        let v : ℕ = getD b ((s .own + k) % length b) 0 in
-        let z : List ℕ = replicate (256 - (k + 1)) 0 in
-        let e : 256 - k ≡ suc (256 - (k + 1)) = omega arith in
-        ap (λ (x : ℕ). set (w ++ replicate x 0) k v) e ∙ set-at w 0 z v k (window-length b (length b) (s .own) k)
-        ∙ sym (append-snoc w v z) ∙ ap (λ (l : List ℕ). l ++ z) (sym (window-append b (length b) (s .own) k 1))
+      copy-more :
+          (k : ℕ) → k < 256
+          → set (window b (length b) (s .own) k ++ replicate (256 - k) 0) k (getD b ((s .own + k) % length b) 0)
+          ≡ window b (length b) (s .own) (k + 1) ++ replicate (256 - (k + 1)) 0
+      unfolding window
+      copy-more k h =
+          let w : List ℕ = window b (length b) (s .own) k in
+          let v : ℕ = getD b ((s .own + k) % length b) 0 in
+          let z : List ℕ = replicate (256 - (k + 1)) 0 in
+          let e : 256 - k ≡ suc (256 - (k + 1)) = omega arith in
+          ap (λ (x : ℕ). set (w ++ replicate x 0) k v) e ∙ set-at w 0 z v k (window-length b (length b) (s .own) k)
+          ∙ sym (append-snoc w v z) ∙ ap (λ (l : List ℕ). l ++ z) (sym (window-append b (length b) (s .own) k 1))
 
-    below-256 : (k : ℕ) → k < l₀ → k < 256
-    unfolding l₀
-    below-256 k h = omega (arith, total-high h₀)
+      below-256 : (k : ℕ) → k < l₀ → k < 256
+      unfolding l₀
+      below-256 k h = omega (arith, total-high h₀)
 
-    one-more : (k : ℕ) → 1 ≤ k → k < l₀ → moveAfter Receive.move (midway k) ≡ midway (k + 1)
-    unfolding Receive.moveBy midway taking
-    one-more k l h = rw (move-number k l h, copy-more k (below-256 k h))
+      one-more : (k : ℕ) → 1 ≤ k → k < l₀ → moveAfter Receive.move (midway k) ≡ midway (k + 1)
+      unfolding Receive.moveBy midway taking
+      one-more k l h = rw (move-number k l h, copy-more k (below-256 k h))
 
-    all-moves : (j k : ℕ) → 1 ≤ k → k + j ≤ l₀ → moves Receive.move j (midway k) ≡ midway (k + j)
-    unfolding moves
-    all-moves zero k l h = ap midway (omega arith)
-    all-moves (suc j) k l h =
-        ap (moves Receive.move j) (one-more k l (omega arith)) ∙ all-moves j (k + 1) (omega arith) (omega arith) ∙ ap midway (omega arith)
+      all-moves : (j k : ℕ) → 1 ≤ k → k + j ≤ l₀ → moves Receive.move j (midway k) ≡ midway (k + j)
+      unfolding moves
+      all-moves zero k l h = ap midway (omega arith)
+      all-moves (suc j) k l h =
+          ap (moves Receive.move j) (one-more k l (omega arith)) ∙ all-moves j (k + 1) (omega arith) (omega arith)
+          ∙ ap midway (omega arith)
 
-    module _ (o : List ℕ) (long : leb 256 (length o) ≡ true) where
-      formed : Bool
-      formed = wellFormed h₀ (getD (window b (length b) (s .own) l₀) 1 0)
+      module _ (o : List ℕ) (long : leb 256 (length o) ≡ true) where
+        formed : Bool
+        formed = wellFormed h₀ (getD (window b (length b) (s .own) l₀) 1 0)
 
-      copied-formed : wellFormed (header (taking l₀)) (second (taking l₀)) ≡ formed
-      unfolding taking formed
-      copied-formed =
-          let l : 1 ≤ l₀ = unfold l₀ in total-low h₀ in
-          rw (copied-header l₀ l, padded (window b (length b) (s .own) l₀) (256 - l₀) 1)
+        copied-formed : wellFormed (header (taking l₀)) (second (taking l₀)) ≡ formed
+        unfolding taking formed
+        copied-formed =
+            let l : 1 ≤ l₀ = unfold l₀ in total-low h₀ in
+            rw (copied-header l₀ l, padded (window b (length b) (s .own) l₀) (256 - l₀) 1)
 
-      publish-number : Receive.publishNumber (taking l₀) o d b ≡ need formed 13 0
-      unfolding Receive.publishNumberOf taking
-      publish-number =
-          let l : 1 ≤ l₀ = unfold l₀ in total-low h₀ in
-          first-needs-ok _ _ (active l₀ l (omega arith)) ∙ ok 5 long ∙ ok 12 (le-leb l₀ l₀ (omega arith)) ∙ ap (λ (t : Bool). need t 13 0) copied-formed
+        publish-number : Receive.publishNumber (taking l₀) o d b ≡ need formed 13 0
+        unfolding Receive.publishNumberOf taking
+        publish-number =
+            let l : 1 ≤ l₀ = unfold l₀ in total-low h₀ in
+            first-needs-ok _ _ (active l₀ l (omega arith)) ∙ ok 5 long ∙ ok 12 (le-leb l₀ l₀ (omega arith))
+            ∙ ap (λ (t : Bool). need t 13 0) copied-formed
 
-      publish-by : Receive.publishBy (need formed 13 0) (taking l₀) o d b ≡ receiveOutcome s (receiveBy (need formed 13 0) (s .own) o d b)
-      unfolding Receive.publishBy receiveBy need taking l₀ h₀
-      publish-by =
-          cases formed
-          (λ f. rw (f, take-at (window b (length b) (s .own) l₀) (replicate (256 - l₀) 0) l₀ (window-length b (length b) (s .own) l₀)))
-          (λ f. rw f)
+        -- what it comes to
+        abbrev end : Outcome
+        end = receiveOutcome s (receiveBy (need formed 13 0) (s .own) o d b)
 
-      published : Receive.publishAfter o (midway l₀) ≡ receiveOutcome s (receiveBy (need formed 13 0) (s .own) o d b)
-      unfolding midway
-      published = ap (λ (c : ℕ). Receive.publishBy c (taking l₀) o d b) publish-number ∙ publish-by
+        publish-by : Receive.publishBy (need formed 13 0) (taking l₀) o d b ≡ end
+        unfolding Receive.publishBy receiveBy need taking l₀ h₀
+        publish-by =
+            let w = window b (length b) (s .own) l₀ in
+            cases formed
+            (λ f. rw (f, take-at w (replicate (256 - l₀) 0) l₀ (window-length b (length b) (s .own) l₀)))
+            (λ f. rw f)
 
-      -- a look that is accepted, and what follows it
-      looked : Receive.lookBy 0 s d b ≡ midway 1
-      unfolding Receive.lookBy midway taking marked window l₀ h₀
-      looked =
-          let z : s .own % length b ≡ s .own = mod-eq-of-lt below in
-          rw z
+        published : Receive.publishAfter o (midway l₀) ≡ end
+        unfolding midway
+        published = ap (λ (c : ℕ). Receive.publishBy c (taking l₀) o d b) publish-number ∙ publish-by
 
-      after-look : Receive.afterLook o (midway 1) ≡ receiveOutcome s (receiveBy (need formed 13 0) (s .own) o d b)
-      unfolding Receive.afterLook midway taking
-      after-look =
-          let l : 1 ≤ l₀ = unfold l₀ in total-low h₀ in
-          let z : 1 + (l₀ - 1) ≡ l₀ = omega arith in
-          ap (Receive.publishAfter o) (all-moves (l₀ - 1) 1 (omega arith) (omega arith) ∙ ap midway z) ∙ published
+        -- a look that is accepted, and what follows it
+        looked : Receive.lookBy 0 s d b ≡ midway 1
+        unfolding Receive.lookBy midway taking marked window l₀ h₀
+        looked =
+            let z : s .own % length b ≡ s .own = mod-eq-of-lt below in
+            rw z
 
-      whole-accepted : Receive.afterLook o (Receive.lookBy 0 s d b) ≡ receiveOutcome s (receiveBy (need formed 13 0) (s .own) o d b)
-      whole-accepted = ap (Receive.afterLook o) looked ∙ after-look
+        after-look : Receive.afterLook o (midway 1) ≡ end
+        unfolding Receive.afterLook midway taking
+        after-look =
+            let l : 1 ≤ l₀ = unfold l₀ in total-low h₀ in
+            let z : 1 + (l₀ - 1) ≡ l₀ = omega arith in
+            ap (Receive.publishAfter o) (all-moves (l₀ - 1) 1 (omega arith) (omega arith) ∙ ap midway z) ∙ published
+
+        whole-accepted : Receive.afterLook o (Receive.lookBy 0 s d b) ≡ end
+        whole-accepted = ap (Receive.afterLook o) looked ∙ after-look
 
 -- a look that is refused
 look-refused :
@@ -171,24 +185,30 @@ module _ (s : State) (o d b : List ℕ) where
   Same : Type 0
   Same = Receive.whole s o d b ≡ receiveOutcome s (wholeReceive (idle (length b) s) (s .own) o d b)
 
-  by-1-to-5 : (c : ℕ) → Receive.wholeNumber s o d b ≡ c → taken ≡ c → eqb c 0 ≡ false → eqb c 13 ≡ false → marked c d ≡ d → Same
+  by-1-to-5 :
+      (c : ℕ) → Receive.wholeNumber s o d b ≡ c → taken ≡ c → eqb c 0 ≡ false → eqb c 13 ≡ false → marked c d ≡ d
+      → Same
   unfolding Same taken Receive.wholeBy receiveBy receiveNumber
   by-1-to-5 c w k z t m = rw (w, k, z, z, t, m)
 
   by-look : Receive.wholeNumber s o d b ≡ 0 → taken ≡ f → Receive.lookNumber s d b ≡ f → eqb f 0 ≡ false → Same
   unfolding Same taken f Receive.wholeBy
-  by-look w k l z = rw (w, k, l) (look-refused s o d b f z (look-not-13 (length b) (s .own) (status d) (head d) (tail d) (getD b (s .own) 0)))
+  by-look w k l z =
+      let not-13 = look-not-13 (length b) (s .own) (status d) (head d) (tail d) (getD b (s .own) 0) in
+      rw (w, k, l) (look-refused s o d b f z not-13)
 
   by-all :
-      length d ≡ 16 → allowed (length b) ≡ true → idle (length b) s ≡ true → leb 256 (length o) ≡ true → Receive.wholeNumber s o d b ≡ 0
-      → taken ≡ 0 → Receive.lookNumber s d b ≡ 0 → f ≡ 0 → Same
+      length d ≡ 16 → allowed (length b) ≡ true → idle (length b) s ≡ true → leb 256 (length o) ≡ true
+      → Receive.wholeNumber s o d b ≡ 0 → taken ≡ 0 → Receive.lookNumber s d b ≡ 0 → f ≡ 0 → Same
   unfolding Same taken f Receive.wholeBy receiveNumber formed l₀ h₀
   by-all t₁ t₂ t₃ t₄ w k l z =
       let a = look-accepted (length b) (s .own) (status d) (head d) (tail d) (getD b (s .own) 0) z in
       rw (w, k, l) (whole-accepted s d b t₁ t₂ (idle-same (length b) s t₃) (a .below) o t₄)
 
 -- 'A whole .. receive that 1 to 5 don't refuse equals its steps run one after another'
-pub receive-at-once : (s : State) (o d b : List ℕ) → Receive.whole s o d b ≡ receiveOutcome s (wholeReceive (idle (length b) s) (s .own) o d b)
+pub receive-at-once :
+    (s : State) (o d b : List ℕ)
+    → Receive.whole s o d b ≡ receiveOutcome s (wholeReceive (idle (length b) s) (s .own) o d b)
 unfolding Same taken f Receive.wholeNumber receiveDecision takeDecision firstNeeds need marked
 receive-at-once s o d b =
     cases (eqb (length d) 16)
@@ -198,7 +218,8 @@ receive-at-once s o d b =
     (λ t₄. cases (eqb (f s o d b) 0)
     (λ z.
     let e : f s o d b ≡ 0 = eqb-true _ 0 z in
-    by-all s o d b (eqb-true (length d) 16 t₁) t₂ t₃ t₄ (rw (t₁, t₂, t₃, t₄)) (rw (t₁, t₂, t₃, t₄) e) (rw (t₁, t₂, t₃) e) e)
+    let sixteen = eqb-true (length d) 16 t₁ in
+    by-all s o d b sixteen t₂ t₃ t₄ (rw (t₁, t₂, t₃, t₄)) (rw (t₁, t₂, t₃, t₄) e) (rw (t₁, t₂, t₃) e) e)
     (λ z. by-look s o d b (rw (t₁, t₂, t₃, t₄)) (rw (t₁, t₂, t₃, t₄)) (rw (t₁, t₂, t₃)) z))
     (λ t₄. by-1-to-5 s o d b 5 (rw (t₁, t₂, t₃, t₄)) (rw (t₁, t₂, t₃, t₄)) refl refl refl))
     (λ t₃. by-1-to-5 s o d b 3 (rw (t₁, t₂, t₃)) (rw (t₁, t₂, t₃)) refl refl refl))
@@ -207,7 +228,9 @@ receive-at-once s o d b =
 
 -- what the code of a whole receive at once says of the steps
 pub receive-method :
-    (s : State) (o d b : List ℕ) (fits : Bool) (r : WholeEnd) (d′ o′ : List ℕ) → fits ≡ idle (length b) s → wholeEnd r d′ b o′ ≡ wholeReceive fits (s .own) o d b
+    (s : State) (o d b : List ℕ) (fits : Bool) (r : WholeEnd) (d′ o′ : List ℕ)
+    → fits ≡ idle (length b) s → wholeEnd r d′ b o′ ≡ wholeReceive fits (s .own) o d b
     → Receive.whole s o d b ≡ receiveOutcome s (wholeEnd r d′ b o′)
 receive-method s o d b fits r d′ o′ f e =
-    receive-at-once s o d b ∙ ap (λ (t : Bool). receiveOutcome s (wholeReceive t (s .own) o d b)) (sym f) ∙ ap (receiveOutcome s) (sym e)
+    receive-at-once s o d b ∙ ap (λ (t : Bool). receiveOutcome s (wholeReceive t (s .own) o d b)) (sym f)
+    ∙ ap (receiveOutcome s) (sym e)

@@ -1,4 +1,5 @@
--- A whole send at once is its steps one after another: the law by which the code of a whole send meets its definition. Assumes nothing.
+-- A whole send at once is its steps one after another: the law by which the code of a whole send meets its definition.
+-- Assumes nothing.
 use Prim.Native.Nat.{ℕ, zero, suc, _+_, _-_, _%_, _≤_, _<_}
 use mathlib.Core.Path.{_≡_, refl, sym, ap, _∙_}
 use mathlib.Core.Bool.{Bool, true, false, cond}
@@ -28,7 +29,14 @@ use Rattle.runs.proofs.Ring.{stored-length, stored-take}
 -- a whole send that is accepted, as an outcome with the state s before it
 abbrev pub sendOutcome : State → AtOnce → Outcome
 sendOutcome s x =
-    record { code = x .code; len = x .len; next = cond (eqb (x .code) 0) (idleAt (s .n) (x .own)) s; desc = x .desc; buf = x .buf; out = x .out }
+    record {
+      code = x .code;
+      len = x .len;
+      next = cond (eqb (x .code) 0) (idleAt (s .n) (x .own)) s;
+      desc = x .desc;
+      buf = x .buf;
+      out = x .out;
+    }
 
 module _ (s : State) (m d b : List ℕ) where
   -- a send after its look and k stores
@@ -51,7 +59,18 @@ module _ (s : State) (m d b : List ℕ) where
         let z : List ℕ = replicate (256 - length m) 0 in
         let e₀ : getD (m ++ z) 0 0 ≡ getD m 0 0 = List·getD-append m z 0 0 (omega (arith, message-long m f)) in
         let e₁ : getD (m ++ z) 1 0 ≡ getD m 1 0 = List·getD-append m z 0 1 (omega (arith, message-long m f)) in
-        rw (size k, same, e₀, e₁, eq-eqb (length b) (length b) refl, lt-ltb _ _ (a .below), le-leb _ _ (message-long m f), le-leb _ _ (message-short m f), le-leb _ _ h, eq-eqb _ _ (message-length m f))
+        rw (
+          size k,
+          same,
+          e₀,
+          e₁,
+          eq-eqb (length b) (length b) refl,
+          lt-ltb _ _ (a .below),
+          le-leb _ _ (message-long m f),
+          le-leb _ _ (message-short m f),
+          le-leb _ _ h,
+          eq-eqb _ _ (message-length m f),
+        )
         (message-formed m f)
 
     first-needs-ok : (k : ℕ) (t : Bool) (r : ℕ) → t ≡ true → firstNeeds (length d) (length (midway k .buf)) t r ≡ r
@@ -65,7 +84,8 @@ module _ (s : State) (m d b : List ℕ) where
     one-more : (k : ℕ) → k < length m → moveAfter Send.move (midway k) ≡ midway (k + 1)
     unfolding Send.moveBy midway sending
     one-more k h =
-        rw (move-number k h, size k, List·getD-append m (replicate (256 - length m) 0) 0 k h, stored-take b (length b) (s .own) m k h, ← add-one k)
+        let dword = List·getD-append m (replicate (256 - length m) 0) 0 k h in
+        rw (move-number k h, size k, dword, stored-take b (length b) (s .own) m k h, ← add-one k)
 
     all-moves : (j k : ℕ) → k + j ≤ length m → moves Send.move j (midway k) ≡ midway (k + j)
     unfolding moves
@@ -75,7 +95,9 @@ module _ (s : State) (m d b : List ℕ) where
 
     publish-number : Send.publishNumber (sending (length m)) d (midway (length m) .buf) ≡ 0
     unfolding Send.publishNumber sending
-    publish-number = first-needs-ok (length m) _ _ (active (length m) (omega arith)) ∙ tested (leb (length m) (length m)) 12 (le-leb (length m) (length m) (omega arith))
+    publish-number =
+        first-needs-ok (length m) _ _ (active (length m) (omega arith))
+        ∙ tested (leb (length m) (length m)) 12 (le-leb (length m) (length m) (omega arith))
 
     published :
         Send.publishAfter (midway (length m))
@@ -96,12 +118,15 @@ module _ (s : State) (m d b : List ℕ) where
         let z : 0 + length m ≡ length m = omega arith in
         ap Send.publishAfter (all-moves (length m) 0 (omega arith) ∙ ap midway z) ∙ published
 
-whole-refused : (s : State) (m d b : List ℕ) (c : ℕ) → eqb c 0 ≡ false → Send.afterLook (length m) (Send.lookBy c s m d b) ≡ sendOutcome s (sendBy c (s .own) m d b)
+whole-refused :
+    (s : State) (m d b : List ℕ) (c : ℕ) → eqb c 0 ≡ false
+    → Send.afterLook (length m) (Send.lookBy c s m d b) ≡ sendOutcome s (sendBy c (s .own) m d b)
 unfolding Send.afterLook Send.lookBy sendBy
 whole-refused s m d b c t = rw t
 
 -- 'A whole send .. equals its steps run one after another'
-pub send-at-once : (s : State) (m d b : List ℕ) → Send.whole s m d b ≡ sendOutcome s (wholeSend (idle (length b) s) (s .own) m d b)
+pub send-at-once :
+    (s : State) (m d b : List ℕ) → Send.whole s m d b ≡ sendOutcome s (wholeSend (idle (length b) s) (s .own) m d b)
 send-at-once s m d b =
     cases (eqb (Send.lookNumber s m d b) 0)
     (λ t.
@@ -112,10 +137,12 @@ send-at-once s m d b =
 
 -- what the code of a whole send at once says of the steps
 pub send-method :
-    (s : State) (m d b : List ℕ) (fits : Bool) (r : WholeEnd) (d′ b′ : List ℕ) → fits ≡ idle (length b) s → wholeEnd r d′ b′ [] ≡ wholeSend fits (s .own) m d b
+    (s : State) (m d b : List ℕ) (fits : Bool) (r : WholeEnd) (d′ b′ : List ℕ)
+    → fits ≡ idle (length b) s → wholeEnd r d′ b′ [] ≡ wholeSend fits (s .own) m d b
     → Send.whole s m d b
     ≡ record { code = r .code; len = 0; next = cond (eqb (r .code) 0) (idleAt (s .n) (r .own)) s; desc = d′; buf = b′; out = [] }
 unfolding sendBy
 send-method s m d b fits r d′ b′ f e =
     let z : r .len ≡ 0 = ap (λ (x : AtOnce). x .len) e in
-    send-at-once s m d b ∙ ap (λ (t : Bool). sendOutcome s (wholeSend t (s .own) m d b)) (sym f) ∙ ap (sendOutcome s) (sym e) ∙ rw z
+    send-at-once s m d b ∙ ap (λ (t : Bool). sendOutcome s (wholeSend t (s .own) m d b)) (sym f)
+    ∙ ap (sendOutcome s) (sym e) ∙ rw z

@@ -48,7 +48,8 @@ module _ (s : State) (o d n c : ℕ) (e : c ≡ publishNumberOf s o d n) (t : (e
   pub publish-room : 256 ≤ o
   unfolding publishNumberOf
   publish-room =
-      leb-true 256 o (passed _ 5 _ c (other 5 c t refl) (entered-rest d n _ _ c (other 1 c t refl) (other 2 c t refl) (other 3 c t refl) (sym e)))
+      let entered = entered-rest d n _ _ c (other 1 c t refl) (other 2 c t refl) (other 3 c t refl) (sym e) in
+      leb-true 256 o (passed _ 5 _ c (other 5 c t refl) entered)
 
 -- an accepted publish has a message of at least two dwords
 pub publish-long : (s : State) (o d n : ℕ) → publishNumberOf s o d n ≡ 0 → 2 ≤ s .len

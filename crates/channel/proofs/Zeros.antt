@@ -22,7 +22,9 @@ join-zero (suc a) b =
     (ne-eqb (bitOr (suc a) b) 0 (λ e. omega (arith, or-add-and (suc a) b, and-le-r (suc a) b)))
 
 -- a turn of the loop that joins the dwords of s, of which j is the join so far
-pub zero-more : (j : ℕ) (s : List ℕ) (i : ℕ) → i < length s → (eqb (bitOr j (getD s i 0)) 0 && allZero (drop (i + 1) s)) ≡ (eqb j 0 && allZero (drop i s))
+pub zero-more :
+    (j : ℕ) (s : List ℕ) (i : ℕ) → i < length s
+    → (eqb (bitOr j (getD s i 0)) 0 && allZero (drop (i + 1) s)) ≡ (eqb j 0 && allZero (drop i s))
 unfolding allZero
 zero-more j s i h =
     rw (add-one, drop-cons s i 0, join-zero) (and-assoc (eqb j 0) (eqb (getD s i 0) 0) (allZero (drop (suc i) s)))
@@ -54,7 +56,8 @@ pair-zero (suc x) y = rw (ne-eqb (suc x) 0 (λ e. omega arith)) (ne-eqb (suc x +
 zero-suc : (s : List ℕ) (i : ℕ) → i < length s → allZero (take (suc i) s) ≡ (allZero (take i s) && eqb (getD s i 0) 0)
 unfolding allZero
 zero-suc s i h =
-    ap allZero (take-suc s i 0 h) ∙ zero-both (take i s) (getD s i 0 ∷ []) ∙ ap (λ (t : Bool). allZero (take i s) && t) (and-true (eqb (getD s i 0) 0))
+    ap allZero (take-suc s i 0 h) ∙ zero-both (take i s) (getD s i 0 ∷ [])
+    ∙ ap (λ (t : Bool). allZero (take i s) && t) (and-true (eqb (getD s i 0) 0))
 
 -- a turn of the loop that joins the dwords of s two by two, of which j is the join so far
 pub pair-more :
@@ -65,9 +68,12 @@ pair-more j s k h e =
     let y : ℕ = getD s (2 * k + 1) 0 in
     let f : suc (2 * k + 1) ≡ 2 * (k + 1) = omega arith in
     let g : suc (2 * k) ≡ 2 * k + 1 = omega arith in
-    let one : allZero (take (2 * k + 1) s) ≡ (allZero (take (2 * k) s) && eqb x 0) = ap (λ (i : ℕ). allZero (take i s)) (sym g) ∙ zero-suc s (2 * k) (omega arith) in
-    let two : allZero (take (2 * (k + 1)) s) ≡ (allZero (take (2 * k + 1) s) && eqb y 0) = ap (λ (i : ℕ). allZero (take i s)) (sym f) ∙ zero-suc s (2 * k + 1) h in
-    join-zero j (x + y * 2 ^ 32) ∙ ap (λ (t : Bool). eqb j 0 && t) (pair-zero x y) ∙ ap (λ (t : Bool). t && (eqb x 0 && eqb y 0)) e
+    let one : allZero (take (2 * k + 1) s) ≡ (allZero (take (2 * k) s) && eqb x 0) =
+    ap (λ (i : ℕ). allZero (take i s)) (sym g) ∙ zero-suc s (2 * k) (omega arith) in
+    let two : allZero (take (2 * (k + 1)) s) ≡ (allZero (take (2 * k + 1) s) && eqb y 0) =
+    ap (λ (i : ℕ). allZero (take i s)) (sym f) ∙ zero-suc s (2 * k + 1) h in
+    join-zero j (x + y * 2 ^ 32) ∙ ap (λ (t : Bool). eqb j 0 && t) (pair-zero x y)
+    ∙ ap (λ (t : Bool). t && (eqb x 0 && eqb y 0)) e
     ∙ sym (and-assoc (allZero (take (2 * k) s)) (eqb x 0) (eqb y 0)) ∙ ap (λ (t : Bool). t && eqb y 0) (sym one) ∙ sym two
 
 -- four joins are 0 together just where each is
@@ -77,14 +83,17 @@ joins-zero a b c d = rw (join-zero (bitOr (bitOr a b) c) d, join-zero (bitOr a b
 -- two halves of a list, each of them in two, and what is left
 pub zero-parts :
     (h q : ℕ) (s : List ℕ)
-    → (allZero (take q (take h s)) && allZero (drop q (take h s)) && allZero (take q (take h (drop h s))) && allZero (drop q (take h (drop h s))) && allZero (drop h (drop h s)))
+    → (allZero (take q (take h s)) && allZero (drop q (take h s))
+    && allZero (take q (take h (drop h s))) && allZero (drop q (take h (drop h s)))
+    && allZero (drop h (drop h s)))
     ≡ allZero s
 zero-parts h q s =
     let f : List ℕ = take h s in
     let g : List ℕ = take h (drop h s) in
     let r : Bool = allZero (drop h (drop h s)) in
     ap (λ (t : Bool). t && allZero (take q g) && allZero (drop q g) && r) (zero-split q f)
-    ∙ ap (λ (t : Bool). t && r) (and-assoc (allZero f) (allZero (take q g)) (allZero (drop q g)) ∙ ap (λ (t : Bool). allZero f && t) (zero-split q g))
+    ∙ ap (λ (t : Bool). t && r)
+    (and-assoc (allZero f) (allZero (take q g)) (allZero (drop q g)) ∙ ap (λ (t : Bool). allZero f && t) (zero-split q g))
     ∙ and-assoc (allZero f) (allZero g) r ∙ ap (λ (t : Bool). allZero f && t) (zero-split h (drop h s)) ∙ zero-split h s
 
 -- as slices have them
@@ -92,10 +101,13 @@ pub zero-slices :
     (m : ℕ) (s : List ℕ)
     → let f = take (4 * m - 0) s in
     let g = take (2 * (4 * m) - 4 * m) (drop (4 * m) s) in
-    (allZero (take (2 * m - 0) f) && allZero (take (length f - 2 * m) (drop (2 * m) f)) && allZero (take (2 * m - 0) g) && allZero (take (length g - 2 * m) (drop (2 * m) g)) && allZero (take (length s - 2 * (4 * m)) (drop (2 * (4 * m)) s)))
+    (allZero (take (2 * m - 0) f) && allZero (take (length f - 2 * m) (drop (2 * m) f))
+    && allZero (take (2 * m - 0) g) && allZero (take (length g - 2 * m) (drop (2 * m) g))
+    && allZero (take (length s - 2 * (4 * m)) (drop (2 * (4 * m)) s)))
     ≡ allZero s
 zero-slices m s =
     let e : 2 * (4 * m) - 4 * m ≡ 4 * m = omega arith in
     let d : 4 * m + 4 * m ≡ 2 * (4 * m) = omega arith in
-    let twice : drop (4 * m) (drop (4 * m) s) ≡ drop (2 * (4 * m)) s = drop-drop (4 * m) (4 * m) s ∙ ap (λ (k : ℕ). drop k s) d in
+    let twice : drop (4 * m) (drop (4 * m) s) ≡ drop (2 * (4 * m)) s =
+    drop-drop (4 * m) (4 * m) s ∙ ap (λ (k : ℕ). drop k s) d in
     rw (to-end, to-end, to-end, e, sub-zero, sub-zero, ← twice) (zero-parts (4 * m) (2 * m) s)

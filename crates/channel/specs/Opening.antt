@@ -25,8 +25,8 @@ opened r d b = record { code = r .code; sender = ofSender (r .sender); receiver 
 unfoldable pub openNumber : ℕ → ℕ → ℕ
 openNumber descriptor n = need (eqb descriptor 16) 1 (need (allowed n) 2 0)
 
--- 'Opening zeroes the descriptor, leaves the buffer, and gives both sides idle states with own offset 0.' Refused, it 'gives two all-zero states,
--- made for N 0', and leaves all.
+-- 'Opening zeroes the descriptor, leaves the buffer, and gives both sides idle states with own offset 0.' Refused, it
+-- 'gives two all-zero states, made for N 0', and leaves all.
 unfoldable pub openBy : ℕ → List ℕ → List ℕ → Opening
 openBy c d b =
     record {

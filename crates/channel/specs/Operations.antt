@@ -1,5 +1,5 @@
--- The eight operations of a channel's two sides, as data, and what each gives: what lists of operations (demand 3) and the table of refusals
--- (demand 1) both speak of.
+-- The eight operations of a channel's two sides, as data, and what each gives: what lists of operations (demand 3) and
+-- the table of refusals (demand 1) both speak of.
 use Prim.Native.Nat.{ℕ}
 use mathlib.Core.List.{List}
 use Rattle.channel.specs.State.{State}

@@ -6,8 +6,8 @@ use Rattle.channel.specs.declared.sending.Sent.{Sent}
 use Rattle.channel.specs.declared.receiving.Stepped.{Stepped}
 use Rattle.channel.specs.declared.receiving.Received.{Received}
 
--- the number, L (0 where the answer has none), the next state, the descriptor, the buffer and the output (no dword where none is
--- lent)
+-- the number, L (0 where the answer has none), the next state, the descriptor, the buffer and the output (no dword
+-- where none is lent)
 pub record Outcome : Type 0 where
   pub code : ℕ
   pub len : ℕ

@@ -1,4 +1,5 @@
--- The steps of a receive and a whole receive (document 01, 'Steps of a send and a receive'): the number first, then the effect by it.
+-- The steps of a receive and a whole receive (document 01, 'Steps of a send and a receive'): the number first, then the
+-- effect by it.
 use Prim.Native.Nat.{ℕ, _+_, _-_}
 use mathlib.Core.Bool.{_||_, cond}
 use mathlib.Core.List.{List, [], _∷_, _++_}
@@ -11,7 +12,8 @@ use Rattle.ring.specs.Numbers.{need, firstNeeds, receiveDecision, marked}
 use Rattle.channel.specs.Outcome.{Outcome, refused}
 use Rattle.channel.specs.Steps.{nextPlace, pastMessage, moves, allMovesBy}
 
--- 'look (read STATUS, HEAD, TAIL and, if not empty, the header, ..)': 1, 2 and 3, then what the descriptor and the header at the own head say
+-- 'look (read STATUS, HEAD, TAIL and, if not empty, the header, ..)': 1, 2 and 3, then what the descriptor and the
+-- header at the own head say
 abbrev pub lookNumber : State → List ℕ → List ℕ → ℕ
 lookNumber s d b = receiveDecision (idle (length b) s) (s .own) d (length b) (getD b (s .own) 0)
 
@@ -51,8 +53,8 @@ goOnNumber s d b = firstNeeds (length d) (length b) (activeReceive (length b) s)
 abbrev pub moveAll : State → List ℕ → List ℕ → Outcome
 moveAll s d b = allMovesBy (goOnNumber s d b) move s d b
 
--- 'publish HEAD = (own head + L) mod N': 5 'output shorter than 256', 12 'publish before L dwords moved', 13 'received message whole but
--- malformed'. 'The copied message is judged at publish and the ring isn't read again for it.'
+-- 'publish HEAD = (own head + L) mod N': 5 'output shorter than 256', 12 'publish before L dwords moved', 13 'received
+-- message whole but malformed'. 'The copied message is judged at publish and the ring isn't read again for it.'
 -- with the lengths of the output, the descriptor and the buffer
 unfoldable pub publishNumberOf : State → ℕ → ℕ → ℕ → ℕ
 publishNumberOf s output descriptor n =
@@ -62,8 +64,8 @@ publishNumberOf s output descriptor n =
 abbrev pub publishNumber : State → List ℕ → List ℕ → List ℕ → ℕ
 publishNumber s o d b = publishNumberOf s (length o) (length d) (length b)
 
--- 'lay the L dwords at the front of the output, the rest of it unchanged. .. Malformed: HEAD moves all the same, the output stays, the
--- answer is 13.'
+-- 'lay the L dwords at the front of the output, the rest of it unchanged. .. Malformed: HEAD moves all the same, the
+-- output stays, the answer is 13.'
 unfoldable pub publishBy : ℕ → State → List ℕ → List ℕ → List ℕ → Outcome
 publishBy c s o d b =
     cond (eqb c 0 || eqb c 13)

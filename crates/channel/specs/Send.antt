@@ -1,5 +1,5 @@
--- The steps of a send and a whole send (document 01, 'Steps of a send and a receive'): the number first, then the effect by it.
--- Document 01's terms for the steps are look, move and publish.
+-- The steps of a send and a whole send (document 01, 'Steps of a send and a receive'): the number first, then the
+-- effect by it. Document 01's terms for the steps are look, move and publish.
 use Prim.Native.Nat.{ℕ, _+_, _-_}
 use mathlib.Core.Bool.{cond}
 use mathlib.Core.List.{List, [], _++_}
@@ -69,8 +69,8 @@ publish s d b = publishBy (publishNumber s d b) s d b
 abbrev pub publishAfter : Outcome → Outcome
 publishAfter x = publish (x .next) (x .desc) (x .buf)
 
--- 'A whole send .. that 1 to 5 don't refuse equals its steps run one after another on the lent memory.' 1 to 4 are its look's; where the look
--- refuses, no step follows it, else l moves and the publish do.
+-- 'A whole send .. that 1 to 5 don't refuse equals its steps run one after another on the lent memory.' 1 to 4 are its
+-- look's; where the look refuses, no step follows it, else l moves and the publish do.
 unfoldable pub afterLook : ℕ → Outcome → Outcome
 afterLook l x = cond (eqb (x .code) 0) (publishAfter (moves move l x)) x
 

@@ -9,8 +9,8 @@ use Rattle.channel.specs.declared.state.Counts.{Counts}
 use Rattle.channel.specs.declared.sending.Sender.{Sender}
 use Rattle.channel.specs.declared.receiving.Receiver.{Receiver}
 
--- what a side keeps between its steps: the N that it was made for, its own offset, L, the dwords moved, and 'its own copy of the
--- message (up to 256 dwords)'
+-- what a side keeps between its steps: the N that it was made for, its own offset, L, the dwords moved, and 'its own
+-- copy of the message (up to 256 dwords)'
 pub record State : Type 0 where
   pub n : ℕ
   pub own : ℕ
@@ -62,8 +62,8 @@ header s = getD (s .copy) 0 0
 abbrev pub second : State → ℕ
 second s = getD (s .copy) 1 0
 
--- 'active (asked only to go on) with L from 2 to 256 for a send, .. moved at most L .., L agreeing with its copied header, and for a
--- send a well-formed copy'
+-- 'active (asked only to go on) with L from 2 to 256 for a send, .. moved at most L .., L agreeing with its copied
+-- header, and for a send a well-formed copy'
 unfoldable pub activeSend : ℕ → State → Bool
 activeSend n s =
     madeFor n s

@@ -1,4 +1,5 @@
-// One command transport buffer (CTB) in one direction: its opening, and the steps and whole calls of its sender and its receiver, with states by value.
+// One command transport buffer (CTB) in one direction: its opening, and the steps and whole calls of its sender and its
+// receiver, with states by value.
 mod opening;
 mod receiving;
 mod sending;

@@ -38,8 +38,9 @@ pub fn clear(words: &mut [u32])
     }
 }
 
-// Opens a channel over a lent descriptor and buffer: the descriptor is zeroed, and both sides are idle at offset 0. Refused by 1 where the
-// descriptor is not 16 dwords, by 2 where the buffer may not have this length; then the states are made for N 0 and fit no call.
+// Opens a channel over a lent descriptor and buffer: the descriptor is zeroed, and both sides are idle at offset 0.
+// Refused by 1 where the descriptor is not 16 dwords, by 2 where the buffer may not have this length; then the states
+// are made for N 0 and fit no call.
 pub fn open_channel(desc: &mut [u32], buf: &[u32]) -> Opened
     ensures { λ r. ⌜ opened r (now (desc .exit)) (now (buf .entry)) ≡ opening (now (desc .entry)) (now (buf .entry)) ⌝ }
 {

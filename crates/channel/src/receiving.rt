@@ -18,8 +18,8 @@ use ring::need;
 use ring::refusal;
 use runs::past;
 
-// A receiver's state: made for a buffer of n dwords, with its own head. Mid-call it has a copy of the dwords that it has moved out of the buffer, of a
-// message of len.
+// A receiver's state: made for a buffer of n dwords, with its own head. Mid-call it has a copy of the dwords that it
+// has moved out of the buffer, of a message of len.
 pub struct Receiver {
     pub n: usize,
     pub own: usize,
@@ -85,7 +85,8 @@ impl Receiver {
 
     // Judges the descriptor and the header, and takes a copy of the header.
     pub fn look(self, desc: &mut [u32], buf: &[u32]) -> Stepped
-        ensures { λ r. ⌜ stepped r (now (desc .exit)) (now (buf .entry)) ≡ Receive.look (ofReceiver self) (now (desc .entry)) (now (buf .entry)) ⌝ }
+        ensures { λ r. ⌜ stepped r (now (desc .exit)) (now (buf .entry))
+            ≡ Receive.look (ofReceiver self) (now (desc .entry)) (now (buf .entry)) ⌝ }
     {
         let n = buf.len();
         let judged = ring::receive_decision(self.is_idle(n), self.own, &desc[..], buf);
@@ -114,7 +115,8 @@ impl Receiver {
 
     // Copies the next dword of the message.
     pub fn copy(self, desc: &[u32], buf: &[u32]) -> Stepped
-        ensures { λ r. ⌜ stepped r (now (desc .entry)) (now (buf .entry)) ≡ Receive.move (ofReceiver self) (now (desc .entry)) (now (buf .entry)) ⌝ }
+        ensures { λ r. ⌜ stepped r (now (desc .entry)) (now (buf .entry))
+            ≡ Receive.move (ofReceiver self) (now (desc .entry)) (now (buf .entry)) ⌝ }
     {
         let n = buf.len();
         let moved = self.moved;
@@ -141,7 +143,9 @@ impl Receiver {
 
     // A publish over a ring of n dwords, which it is not lent: the header cannot be read again.
     fn publish_at(self, desc: &mut [u32], n: usize, out: &mut [u32]) -> Received
-        ensures { λ r. ⌜ ((b : List ℕ) → length b ≡ n → received r (now (desc .exit)) b (now (out .exit)) ≡ Receive.publish (ofReceiver self) (now (out .entry)) (now (desc .entry)) b) ⌝ }
+        ensures { λ r. ⌜ ((b : List ℕ) → length b ≡ n
+            → received r (now (desc .exit)) b (now (out .exit))
+            ≡ Receive.publish (ofReceiver self) (now (out .entry)) (now (desc .entry)) b) ⌝ }
     {
         let copy = self.copy;
         let header = copy[0];
@@ -173,16 +177,19 @@ impl Receiver {
         }
     }
 
-    // Publishes HEAD past the message, and lays the copy at the front of the output where it is well formed. The ring is not read.
+    // Publishes HEAD past the message, and lays the copy at the front of the output where it is well formed. The ring
+    // is not read.
     pub fn publish(self, desc: &mut [u32], buf: &[u32], out: &mut [u32]) -> Received
-        ensures { λ r. ⌜ received r (now (desc .exit)) (now (buf .entry)) (now (out .exit)) ≡ Receive.publish (ofReceiver self) (now (out .entry)) (now (desc .entry)) (now (buf .entry)) ⌝ }
+        ensures { λ r. ⌜ received r (now (desc .exit)) (now (buf .entry)) (now (out .exit))
+            ≡ Receive.publish (ofReceiver self) (now (out .entry)) (now (desc .entry)) (now (buf .entry)) ⌝ }
     {
         self.publish_at(desc, buf.len(), out)
     }
 
     // A whole receive: its steps one after another, at once.
     pub fn receive(self, desc: &mut [u32], buf: &[u32], out: &mut [u32]) -> Received
-        ensures { λ r. ⌜ received r (now (desc .exit)) (now (buf .entry)) (now (out .exit)) ≡ Receive.whole (ofReceiver self) (now (out .entry)) (now (desc .entry)) (now (buf .entry)) ⌝ }
+        ensures { λ r. ⌜ received r (now (desc .exit)) (now (buf .entry)) (now (out .exit))
+            ≡ Receive.whole (ofReceiver self) (now (out .entry)) (now (desc .entry)) (now (buf .entry)) ⌝ }
     {
         let end = ring::whole_receive(self.is_idle(buf.len()), self.own, desc, buf, out);
         if (end.code != 0) & (end.code != refusal::MALFORMED) {

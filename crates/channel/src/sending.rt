@@ -83,10 +83,11 @@ impl Sender {
         sending_number(self.counts(), copy[0], copy[1], descriptor, n, test)
     }
 
-    // Judges a message and the descriptor, and takes a copy of the message. Its first two dwords are read once: those that are judged are those that
-    // are copied.
+    // Judges a message and the descriptor, and takes a copy of the message. Its first two dwords are read once: those
+    // that are judged are those that are copied.
     pub fn look(self, desc: &mut [u32], buf: &[u32], msg: &[u32]) -> Sent
-        ensures { λ r. ⌜ sent r (now (desc .exit)) (now (buf .entry)) ≡ Send.look (ofSender self) (now (msg .entry)) (now (desc .entry)) (now (buf .entry)) ⌝ }
+        ensures { λ r. ⌜ sent r (now (desc .exit)) (now (buf .entry))
+            ≡ Send.look (ofSender self) (now (msg .entry)) (now (desc .entry)) (now (buf .entry)) ⌝ }
     {
         let n = buf.len();
         let len = msg.len();
@@ -115,7 +116,8 @@ impl Sender {
 
     // Stores the next dword of the copy in the buffer.
     pub fn store(self, desc: &[u32], buf: &mut [u32]) -> Sent
-        ensures { λ r. ⌜ sent r (now (desc .entry)) (now (buf .exit)) ≡ Send.move (ofSender self) (now (desc .entry)) (now (buf .entry)) ⌝ }
+        ensures { λ r. ⌜ sent r (now (desc .entry)) (now (buf .exit))
+            ≡ Send.move (ofSender self) (now (desc .entry)) (now (buf .entry)) ⌝ }
     {
         let n = buf.len();
         let moved = self.moved;
@@ -137,7 +139,8 @@ impl Sender {
 
     // A publish over a ring of n dwords, which it is not lent.
     fn publish_at(self, desc: &mut [u32], n: usize) -> Sent
-        ensures { λ r. ⌜ ((b : List ℕ) → length b ≡ n → sent r (now (desc .exit)) b ≡ Send.publish (ofSender self) (now (desc .entry)) b) ⌝ }
+        ensures { λ r. ⌜ ((b : List ℕ) → length b ≡ n
+            → sent r (now (desc .exit)) b ≡ Send.publish (ofSender self) (now (desc .entry)) b) ⌝ }
     {
         let code = self.go_on_number(desc.len(), n, self.len <= self.moved);
         if code != 0 {
@@ -156,14 +159,16 @@ impl Sender {
 
     // Publishes TAIL past the message, once all of it is stored.
     pub fn publish(self, desc: &mut [u32], buf: &[u32]) -> Sent
-        ensures { λ r. ⌜ sent r (now (desc .exit)) (now (buf .entry)) ≡ Send.publish (ofSender self) (now (desc .entry)) (now (buf .entry)) ⌝ }
+        ensures { λ r. ⌜ sent r (now (desc .exit)) (now (buf .entry))
+            ≡ Send.publish (ofSender self) (now (desc .entry)) (now (buf .entry)) ⌝ }
     {
         self.publish_at(desc, buf.len())
     }
 
     // A whole send: its steps one after another, at once.
     pub fn send(self, desc: &mut [u32], buf: &mut [u32], msg: &[u32]) -> Sent
-        ensures { λ r. ⌜ sent r (now (desc .exit)) (now (buf .exit)) ≡ Send.whole (ofSender self) (now (msg .entry)) (now (desc .entry)) (now (buf .entry)) ⌝ }
+        ensures { λ r. ⌜ sent r (now (desc .exit)) (now (buf .exit))
+            ≡ Send.whole (ofSender self) (now (msg .entry)) (now (desc .entry)) (now (buf .entry)) ⌝ }
     {
         let end = ring::whole_send(self.is_idle(buf.len()), self.own, desc, buf, msg);
         if end.code != 0 {

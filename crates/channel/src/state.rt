@@ -1,5 +1,5 @@
-// When a state fits, and the numbers of the steps that go on. All of it is judged on plain numbers: a state's four counts and the first dwords of its
-// copy, each taken once by whoever keeps the state.
+// When a state fits, and the numbers of the steps that go on. All of it is judged on plain numbers: a state's four
+// counts and the first dwords of its copy, each taken once by whoever keeps the state.
 ghost use mathlib.Core.Path.{_≡_};
 ghost use mathlib.Core.List.{[], _∷_};
 ghost use mathlib.Core.Bool.{_&&_};
@@ -37,11 +37,13 @@ fn pair_at(s: &[u32], k: usize) -> u64
     pair(s[low], s[low + 1])
 }
 
-// Whether the dwords of four equal parts are all 0: each part's are joined by `|`, two at a time, and the joins are tested once. No join waits for another's, which
-// counts where there are no wide registers.
+// Whether the dwords of four equal parts are all 0: each part's are joined by `|`, two at a time, and the joins are
+// tested once. No join waits for another's, which counts where there are no wide registers.
 fn parts_zero(p: &[u32], q: &[u32], r: &[u32], t: &[u32], pairs: usize) -> bool
-    requires { ⌜ (length (now p) ≡ 2 * pairs) × (length (now q) ≡ 2 * pairs) × (length (now r) ≡ 2 * pairs) × (length (now t) ≡ 2 * pairs) ⌝ }
-    ensures { λ z. ⌜ z ≡ (allZero (now (p .entry)) && allZero (now (q .entry)) && allZero (now (r .entry)) && allZero (now (t .entry))) ⌝ }
+    requires { ⌜ (length (now p) ≡ 2 * pairs) × (length (now q) ≡ 2 * pairs)
+        × (length (now r) ≡ 2 * pairs) × (length (now t) ≡ 2 * pairs) ⌝ }
+    ensures { λ z. ⌜ z ≡ (allZero (now (p .entry)) && allZero (now (q .entry))
+        && allZero (now (r .entry)) && allZero (now (t .entry))) ⌝ }
 {
     let mut a: u64 = 0;
     let mut b: u64 = 0;

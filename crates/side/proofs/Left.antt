@@ -1,4 +1,5 @@
--- What is left of a message, stored or copied at once with the state in words: it comes to the moves one after another. Assumes nothing.
+-- What is left of a message, stored or copied at once with the state in words: it comes to the moves one after another.
+-- Assumes nothing.
 use Prim.Native.Nat.{ℕ, suc, _+_, _-_, _%_, _≤_, _<_}
 use mathlib.Core.Path.{_≡_, refl, sym, _∙_}
 use mathlib.Core.List.{List, [], _∷_, _++_}
@@ -20,19 +21,28 @@ use Rattle.side.specs.Words.{stateOf, inWords}
 use Rattle.side.proofs.InWords.{four, moved-set}
 
 -- dwords from the place k dwords past an own offset on, stored there and read there
-module _ (b : List ℕ) (own k : ℕ) (xs : List ℕ) (l : own < length b) (h : k ≤ length b) (o : length b ≤ 16384) (f : length xs ≤ length b) where
-  inside : (own + k) % length b < length b
-  inside = mod-lt (own + k) (omega arith)
+module _
+    (b : List ℕ) (own k : ℕ) (xs : List ℕ)
+    (l : own < length b) (h : k ≤ length b) (o : length b ≤ 16384) (f : length xs ≤ length b)
+  where
+    abbrev offset : ℕ
+    offset = (own + k) % length b
 
-  pub stored-past : storedAt b (past (length b) own k) xs ≡ stored b (length b) (own + k) xs
-  stored-past =
-      rw (past-is (length b) own k l h o)
-      (stored-there b ((own + k) % length b) xs inside f ∙ stored-mod b (length b) ((own + k) % length b) (own + k) xs (mod-mod (own + k) (length b)))
+    inside : offset < length b
+    inside = mod-lt (own + k) (omega arith)
 
-  pub filled-past : filledFrom b (past (length b) own k) xs ≡ window b (length b) (own + k) (length xs)
-  filled-past =
-      rw (past-is (length b) own k l h o)
-      (filled-there b ((own + k) % length b) xs inside f ∙ window-mod b (length b) ((own + k) % length b) (own + k) (length xs) (mod-mod (own + k) (length b)))
+    same-offset : offset % length b ≡ (own + k) % length b
+    same-offset = mod-mod (own + k) (length b)
+
+    pub stored-past : storedAt b (past (length b) own k) xs ≡ stored b (length b) (own + k) xs
+    stored-past =
+        rw (past-is (length b) own k l h o)
+        (stored-there b offset xs inside f ∙ stored-mod b (length b) offset (own + k) xs same-offset)
+
+    pub filled-past : filledFrom b (past (length b) own k) xs ≡ window b (length b) (own + k) (length xs)
+    filled-past =
+        rw (past-is (length b) own k l h o)
+        (filled-there b offset xs inside f ∙ window-mod b (length b) offset (own + k) (length xs) same-offset)
 
 -- dwords k to len - 1 of a copy m: how many they are, and the first of them by itself
 module _ (m : List ℕ) (len k : ℕ) (f : len ≤ length m) where
@@ -45,22 +55,29 @@ module _ (m : List ℕ) (len k : ℕ) (f : len ≤ length m) where
       rw (e, drop-cons m k 0 (omega arith))
 
 -- those from the first or the second on, of which the first two are given by value
-module _ (b m : List ℕ) (own len : ℕ) (l : own < length b) (low : 2 ≤ len) (high : len ≤ length b) (o : length b ≤ 16384) (f : len ≤ length m) where
-  pub stored-all : storedAt b own (getD m 0 0 ∷ getD m 1 0 ∷ take (len - 2) (drop 2 m)) ≡ stored b (length b) (own + 0) (take (len - 0) (drop 0 m))
-  stored-all =
-      let z : own + 0 ≡ own = omega arith in
-      rw (part-cons m len 0 f (omega arith), part-cons m len 1 f (omega arith), z) (stored-there b own _ l (omega (arith, part-length m len 2 f)))
+module _
+    (b m : List ℕ) (own len : ℕ)
+    (l : own < length b) (low : 2 ≤ len) (high : len ≤ length b) (o : length b ≤ 16384) (f : len ≤ length m)
+  where
+    pub stored-all :
+        storedAt b own (getD m 0 0 ∷ getD m 1 0 ∷ take (len - 2) (drop 2 m))
+        ≡ stored b (length b) (own + 0) (take (len - 0) (drop 0 m))
+    stored-all =
+        let z : own + 0 ≡ own = omega arith in
+        rw (part-cons m len 0 f (omega arith), part-cons m len 1 f (omega arith), z)
+        (stored-there b own _ l (omega (arith, part-length m len 2 f)))
 
-  pub stored-second :
-      storedAt (set b (past (length b) own 1) (getD m 1 0)) (past (length b) own 2) (take (len - 2) (drop 2 m))
-      ≡ stored b (length b) (own + 1) (take (len - 1) (drop 1 m))
-  unfolding stored
-  stored-second =
-      let b₁ = set b (past (length b) own 1) (getD m 1 0) in
-      let z : length b₁ ≡ length b = length-set b _ _ in
-      let q : own + 2 ≡ suc (own + 1) = omega arith in
-      let s = stored-past b₁ own 2 (take (len - 2) (drop 2 m)) (omega arith) (omega arith) (omega arith) (omega (arith, part-length m len 2 f)) in
-      (rw z at s) ∙ rw (past-is (length b) own 1 l (omega arith) o, part-cons m len 1 f (omega arith), q)
+    pub stored-second :
+        storedAt (set b (past (length b) own 1) (getD m 1 0)) (past (length b) own 2) (take (len - 2) (drop 2 m))
+        ≡ stored b (length b) (own + 1) (take (len - 1) (drop 1 m))
+    unfolding stored
+    stored-second =
+        let b₁ = set b (past (length b) own 1) (getD m 1 0) in
+        let z : length b₁ ≡ length b = length-set b _ _ in
+        let q : own + 2 ≡ suc (own + 1) = omega arith in
+        let fits = part-length m len 2 f in
+        let s = stored-past b₁ own 2 (take (len - 2) (drop 2 m)) (omega arith) (omega arith) (omega arith) (omega (arith, fits)) in
+        (rw z at s) ∙ rw (past-is (length b) own 1 l (omega arith) o, part-cons m len 1 f (omega arith), q)
 
 -- 260 words have a copy that is as long as any message
 pub copy-long : (w : List ℕ) → length w ≡ 260 → length (stateOf w .copy) ≡ 256
@@ -89,7 +106,8 @@ module _ (w d b : List ℕ) (h : length w ≡ 260) where
   s = stateOf w
 
   pub all-stored :
-      (b′ : List ℕ) → Send.goOnNumber s d b ≡ 0 → b′ ≡ stored b (length b) (s .own + s .moved) (take (s .len - s .moved) (drop (s .moved) (s .copy)))
+      (b′ : List ℕ) → Send.goOnNumber s d b ≡ 0
+      → b′ ≡ stored b (length b) (s .own + s .moved) (take (s .len - s .moved) (drop (s .moved) (s .copy)))
       → inWords 0 0 (set w 3 (s .len)) d b′ [] ≡ Send.moveAll s d b
   unfolding Send.goOnNumber
   all-stored b′ e f =
@@ -97,7 +115,8 @@ module _ (w d b : List ℕ) (h : length w ≡ 260) where
       rw (f, moved-set (s .len) w h) (sym (all-sent s d b e (omega (arith, g .short, copy-long w h))))
 
   pub all-copied :
-      (w′ : List ℕ) → Receive.goOnNumber s d b ≡ 0 → w′ ≡ withRun w (4 + s .moved) (window b (length b) (s .own + s .moved) (s .len - s .moved))
+      (w′ : List ℕ) → Receive.goOnNumber s d b ≡ 0
+      → w′ ≡ withRun w (4 + s .moved) (window b (length b) (s .own + s .moved) (s .len - s .moved))
       → inWords 0 0 (set w′ 3 (s .len)) d b [] ≡ Receive.moveAll s d b
   unfolding Receive.goOnNumber
   all-copied w′ e f =

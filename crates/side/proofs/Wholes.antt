@@ -1,4 +1,5 @@
--- What a whole call at once says of the state before it and the state that the caller keeps after it, wherever he keeps it. Assumes nothing.
+-- What a whole call at once says of the state before it and the state that the caller keeps after it, wherever he keeps
+-- it. Assumes nothing.
 use Prim.Native.Nat.{ℕ, _+_, _%_, _<_, _^_}
 use mathlib.Core.Path.{_≡_, refl, sym, ap, _∙_}
 use mathlib.Core.Bool.{true, false, _||_}
@@ -28,7 +29,18 @@ SentAtOnce s m d b r d′ b′ = wholeEnd r d′ b′ [] ≡ wholeSend (idle (le
 abbrev pub ReceivedAtOnce : State → List ℕ → List ℕ → List ℕ → WholeEnd → List ℕ → List ℕ → Type 0
 ReceivedAtOnce s o d b r d′ o′ = wholeEnd r d′ b o′ ≡ wholeReceive (idle (length b) s) (s .own) o d b
 
--- a whole send
+-- what a whole send has that answers r and leaves d′ and b′: it is accepted from an idle state alone, and the state
+-- after it is idle at the own offset, which fits a word, or the one before it
+pub record WholeSent (s : State) (m d b : List ℕ) (r : WholeEnd) (d′ b′ : List ℕ) : Type 0 where
+  pub from-idle : r .code ≡ 0 → idle (length b) s ≡ true
+  pub own-fits : r .code ≡ 0 → r .own < 2 ^ 32
+  pub own-moves :
+      r .code ≡ 0 → (x : State) → x ≡ idleAt (s .n) (r .own)
+      → record { code = r .code; len = 0; next = x; desc = d′; buf = b′; out = [] } ≡ Send.whole s m d b
+  pub state-stays :
+      eqb (r .code) 0 ≡ false
+      → record { code = r .code; len = 0; next = s; desc = d′; buf = b′; out = [] } ≡ Send.whole s m d b
+
 module _ (s : State) (m d b : List ℕ) (r : WholeEnd) (d′ b′ : List ℕ) (e : SentAtOnce s m d b r d′ b′) where
   number : r .code ≡ 0 → numberAt (idle (length b) s) (s .own) m d (length b) ≡ 0
   unfolding sendBy
@@ -37,27 +49,34 @@ module _ (s : State) (m d b : List ℕ) (r : WholeEnd) (d′ b′ : List ℕ) (e
   has : r .code ≡ 0 → Accepted (idle (length b) s) (s .own) m d (length b)
   has z = accepted (idle (length b) s) (s .own) m d (length b) (number z)
 
-  -- it is accepted from an idle state alone
-  pub sent-idle : r .code ≡ 0 → idle (length b) s ≡ true
-  sent-idle z = has z .is-fit
-
-  pub sent-own : r .code ≡ 0 → r .own < 2 ^ 32
+  sent-own : r .code ≡ 0 → r .own < 2 ^ 32
   unfolding sendBy
   sent-own z =
       let i = has z .enters in
       let o : r .own ≡ (s .own + length m) % length b = rw (number z) at (ap (λ (x : AtOnce). x .own) e) in
       omega (arith, o, mod-lt (s .own + length m) {m = length b} (omega arith), i .low, i .high)
 
-  -- the state after it is idle at the own offset, or the one before it
-  pub sent-whole :
-      r .code ≡ 0 → (x : State) → x ≡ idleAt (s .n) (r .own)
-      → record { code = r .code; len = 0; next = x; desc = d′; buf = b′; out = [] } ≡ Send.whole s m d b
-  sent-whole z x q = rw (send-method s m d b (idle (length b) s) r d′ b′ refl e, z, q)
+  pub whole-sent : WholeSent s m d b r d′ b′
+  whole-sent =
+      let steps = send-method s m d b (idle (length b) s) r d′ b′ refl e in
+      record {
+        from-idle = λ z. has z .is-fit;
+        own-fits = sent-own;
+        own-moves = λ z x q. rw (steps, z, q);
+        state-stays = λ z. rw (steps, z);
+      }
 
-  pub sent-refused : eqb (r .code) 0 ≡ false → record { code = r .code; len = 0; next = s; desc = d′; buf = b′; out = [] } ≡ Send.whole s m d b
-  sent-refused z = rw (send-method s m d b (idle (length b) s) r d′ b′ refl e, z)
+-- the same of a whole receive, which moves the own offset where its number is 0 or 13
+pub record WholeReceived (s : State) (o d b : List ℕ) (r : WholeEnd) (d′ o′ : List ℕ) : Type 0 where
+  pub from-idle : (eqb (r .code) 0 || eqb (r .code) 13) ≡ true → idle (length b) s ≡ true
+  pub own-fits : (eqb (r .code) 0 || eqb (r .code) 13) ≡ true → r .own < 2 ^ 32
+  pub own-moves :
+      (eqb (r .code) 0 || eqb (r .code) 13) ≡ true → (x : State) → x ≡ idleAt (s .n) (r .own)
+      → record { code = r .code; len = r .len; next = x; desc = d′; buf = b; out = o′ } ≡ Receive.whole s o d b
+  pub state-stays :
+      (eqb (r .code) 0 || eqb (r .code) 13) ≡ false
+      → record { code = r .code; len = r .len; next = s; desc = d′; buf = b; out = o′ } ≡ Receive.whole s o d b
 
--- a whole receive
 module _ (s : State) (o d b : List ℕ) (r : WholeEnd) (d′ o′ : List ℕ) (e : ReceivedAtOnce s o d b r d′ o′) where
   taken : ℕ
   taken = takeDecision (idle (length b) s) (s .own) (length o) d (length b) (getD b (s .own) 0)
@@ -72,22 +91,25 @@ module _ (s : State) (o d b : List ℕ) (r : WholeEnd) (d′ o′ : List ℕ) (e
       let n = take-not-13 (idle (length b) s) (s .own) (length o) d (length b) (getD b (s .own) 0) in
       true-false (sym z ∙ rw (c, t, n)))
 
-  pub received-idle : (eqb (r .code) 0 || eqb (r .code) 13) ≡ true → idle (length b) s ≡ true
+  received-idle : (eqb (r .code) 0 || eqb (r .code) 13) ≡ true → idle (length b) s ≡ true
   unfolding taken
   received-idle z = taken-has _ _ _ _ _ _ (took z) .is-fit
 
-  pub received-own : (eqb (r .code) 0 || eqb (r .code) 13) ≡ true → r .own < 2 ^ 32
+  received-own : (eqb (r .code) 0 || eqb (r .code) 13) ≡ true → r .own < 2 ^ 32
   unfolding taken receiveBy
   received-own z =
       let i = taken-has _ _ _ _ _ _ (took z) .enters in
-      let c : (eqb (receiveNumber taken (s .own) b) 0 || eqb (receiveNumber taken (s .own) b) 13) ≡ true = rw (ap (λ (x : AtOnce). x .code) e) at z in
+      let k = receiveNumber taken (s .own) b in
+      let c : (eqb k 0 || eqb k 13) ≡ true = rw (ap (λ (x : AtOnce). x .code) e) at z in
       let q : r .own ≡ (s .own + lengthAt (s .own) b) % length b = rw c at (ap (λ (x : AtOnce). x .own) e) in
       omega (arith, q, mod-lt (s .own + lengthAt (s .own) b) {m = length b} (omega arith), i .low, i .high)
 
-  pub received-whole :
-      (eqb (r .code) 0 || eqb (r .code) 13) ≡ true → (x : State) → x ≡ idleAt (s .n) (r .own)
-      → record { code = r .code; len = r .len; next = x; desc = d′; buf = b; out = o′ } ≡ Receive.whole s o d b
-  received-whole z x q = rw (receive-method s o d b (idle (length b) s) r d′ o′ refl e, z, q)
-
-  pub received-refused : (eqb (r .code) 0 || eqb (r .code) 13) ≡ false → record { code = r .code; len = r .len; next = s; desc = d′; buf = b; out = o′ } ≡ Receive.whole s o d b
-  received-refused z = rw (receive-method s o d b (idle (length b) s) r d′ o′ refl e, z)
+  pub whole-received : WholeReceived s o d b r d′ o′
+  whole-received =
+      let steps = receive-method s o d b (idle (length b) s) r d′ o′ refl e in
+      record {
+        from-idle = received-idle;
+        own-fits = received-own;
+        own-moves = λ z x q. rw (steps, z, q);
+        state-stays = λ z. rw (steps, z);
+      }

@@ -1,6 +1,6 @@
-// The calls of a channel on a state of 260 dwords (n, own, len, moved, and the copy), or, for a side that makes whole calls only, of two (n and own), which
-// is lent to the call and changed in place: for callers that keep a side's state in memory of their own, as the C interface does. Held to the same
-// definitions as the states by value.
+// The calls of a channel on a state of 260 dwords (n, own, len, moved, and the copy), or, for a side that makes whole
+// calls only, of two (n and own), which is lent to the call and changed in place: for callers that keep a side's state
+// in memory of their own, as the C interface does. Held to the same definitions as the states by value.
 mod opening;
 mod receiving;
 mod sending;

@@ -14,7 +14,8 @@ pub fn open_channel(
     desc: &mut [u32],
     buf: &[u32],
 ) -> u32
-    ensures { λ r. ⌜ openedWords r (now (sender .exit)) (now (receiver .exit)) (now (desc .exit)) (now (buf .entry)) ≡ opening (now (desc .entry)) (now (buf .entry)) ⌝ }
+    ensures { λ r. ⌜ openedWords r (now (sender .exit)) (now (receiver .exit)) (now (desc .exit)) (now (buf .entry))
+        ≡ opening (now (desc .entry)) (now (buf .entry)) ⌝ }
 {
     let code = open_number(desc.len(), buf.len());
     if code != 0 {

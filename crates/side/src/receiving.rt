@@ -33,7 +33,8 @@ pub struct Laid {
 
 // A whole receive.
 pub fn receive(w: &mut [u32; STATE_WORDS], desc: &mut [u32], buf: &[u32], out: &mut [u32]) -> Laid
-    ensures { λ r. ⌜ inWords (r .code) (r .len) (now (w .exit)) (now (desc .exit)) (now (buf .entry)) (now (out .exit)) ≡ Receive.whole (stateOf (now (w .entry))) (now (out .entry)) (now (desc .entry)) (now (buf .entry)) ⌝ }
+    ensures { λ r. ⌜ inWords (r .code) (r .len) (now (w .exit)) (now (desc .exit)) (now (buf .entry)) (now (out .exit))
+        ≡ Receive.whole (stateOf (now (w .entry))) (now (out .entry)) (now (desc .entry)) (now (buf .entry)) ⌝ }
 {
     let s = counts_of(&w[..]);
     let fits = is_idle(&w[..], s, buf.len());
@@ -49,7 +50,8 @@ pub fn receive(w: &mut [u32; STATE_WORDS], desc: &mut [u32], buf: &[u32], out: &
 
 // Judges the descriptor and the header, and takes a copy of the header.
 pub fn receive_look(w: &mut [u32; STATE_WORDS], desc: &mut [u32], buf: &[u32]) -> u32
-    ensures { λ r. ⌜ inWords r 0 (now (w .exit)) (now (desc .exit)) (now (buf .entry)) [] ≡ Receive.look (stateOf (now (w .entry))) (now (desc .entry)) (now (buf .entry)) ⌝ }
+    ensures { λ r. ⌜ inWords r 0 (now (w .exit)) (now (desc .exit)) (now (buf .entry)) []
+        ≡ Receive.look (stateOf (now (w .entry))) (now (desc .entry)) (now (buf .entry)) ⌝ }
 {
     let n = buf.len();
     let s = counts_of(&w[..]);
@@ -69,7 +71,8 @@ pub fn receive_look(w: &mut [u32; STATE_WORDS], desc: &mut [u32], buf: &[u32]) -
 
 // Copies the next dword of the message.
 pub fn receive_copy(w: &mut [u32; STATE_WORDS], desc: &[u32], buf: &[u32]) -> u32
-    ensures { λ r. ⌜ inWords r 0 (now (w .exit)) (now (desc .entry)) (now (buf .entry)) [] ≡ Receive.move (stateOf (now (w .entry))) (now (desc .entry)) (now (buf .entry)) ⌝ }
+    ensures { λ r. ⌜ inWords r 0 (now (w .exit)) (now (desc .entry)) (now (buf .entry)) []
+        ≡ Receive.move (stateOf (now (w .entry))) (now (desc .entry)) (now (buf .entry)) ⌝ }
 {
     let n = buf.len();
     let s = counts_of(&w[..]);
@@ -86,8 +89,11 @@ pub fn receive_copy(w: &mut [u32; STATE_WORDS], desc: &[u32], buf: &[u32]) -> u3
 
 // Copies dwords `moved` to len - 1 of the message to their places in the copy, read in their runs.
 fn copy_left(w: &mut [u32], buf: &[u32], own: usize, moved: usize, len: usize)
-    requires { ⌜ (length (now w) ≡ 260) × (moved ≤ len) × (len ≤ 256) × (own < length (now buf)) × (1024 ≤ length (now buf)) × (length (now buf) ≤ 16384) ⌝ }
-    ensures { λ _. ⌜ now (w .exit) ≡ withRun (now (w .entry)) (4 + moved) (window (now (buf .entry)) (length (now (buf .entry))) (own + moved) (len - moved)) ⌝ }
+    requires { ⌜ (length (now w) ≡ 260) × (moved ≤ len) × (len ≤ 256) × (own < length (now buf))
+        × (1024 ≤ length (now buf)) × (length (now buf) ≤ 16384) ⌝ }
+    ensures { λ _. ⌜ now (w .exit)
+        ≡ withRun (now (w .entry)) (4 + moved)
+        (window (now (buf .entry)) (length (now (buf .entry))) (own + moved) (len - moved)) ⌝ }
 {
     let from = COPY + moved;
     let to = COPY + len;
@@ -96,7 +102,8 @@ fn copy_left(w: &mut [u32], buf: &[u32], own: usize, moved: usize, len: usize)
 
 // Copies every dword of the message that is left, at once. Each is read once, and judged at publish.
 pub fn receive_copy_all(w: &mut [u32; STATE_WORDS], desc: &[u32], buf: &[u32]) -> u32
-    ensures { λ r. ⌜ inWords r 0 (now (w .exit)) (now (desc .entry)) (now (buf .entry)) [] ≡ Receive.moveAll (stateOf (now (w .entry))) (now (desc .entry)) (now (buf .entry)) ⌝ }
+    ensures { λ r. ⌜ inWords r 0 (now (w .exit)) (now (desc .entry)) (now (buf .entry)) []
+        ≡ Receive.moveAll (stateOf (now (w .entry))) (now (desc .entry)) (now (buf .entry)) ⌝ }
 {
     let n = buf.len();
     let s = counts_of(&w[..]);
@@ -111,7 +118,8 @@ pub fn receive_copy_all(w: &mut [u32; STATE_WORDS], desc: &[u32], buf: &[u32]) -
     0
 }
 
-// Lays the copy's first len dwords, of which two were judged and are given by value, at the front of the output, and returns the head to publish.
+// Lays the copy's first len dwords, of which two were judged and are given by value, at the front of the output, and
+// returns the head to publish.
 fn lay(
     out: &mut [u32],
     header: u32,
@@ -121,8 +129,10 @@ fn lay(
     own: usize,
     n: usize,
 ) -> usize
-    requires { ⌜ (length (now w) ≡ 260) × (2 ≤ len) × (len ≤ 256) × (256 ≤ length (now out)) × (header ≡ getD (now w) 4 0) × (second ≡ getD (now w) 5 0) ⌝ }
-    ensures { λ r. ⌜ (now (out .exit) ≡ take len (stateOf (now (w .entry)) .copy) ++ drop len (now (out .entry))) × (r ≡ Buffer.past n own len) × (r < 16384) ⌝ }
+    requires { ⌜ (length (now w) ≡ 260) × (2 ≤ len) × (len ≤ 256) × (256 ≤ length (now out))
+        × (header ≡ getD (now w) 4 0) × (second ≡ getD (now w) 5 0) ⌝ }
+    ensures { λ r. ⌜ (now (out .exit) ≡ take len (stateOf (now (w .entry)) .copy) ++ drop len (now (out .entry)))
+        × (r ≡ Buffer.past n own len) × (r < 16384) ⌝ }
 {
     let copy = &w[COPY..];
     runs::lay_copy(out, header, second, &copy[2..len], own, n)
@@ -130,7 +140,9 @@ fn lay(
 
 // A publish over a ring of n dwords, which it is not lent: the header cannot be read again.
 fn publish_at(w: &mut [u32; STATE_WORDS], desc: &mut [u32], n: usize, out: &mut [u32]) -> Laid
-    ensures { λ r. ⌜ ((b : List ℕ) → length b ≡ n → inWords (r .code) (r .len) (now (w .exit)) (now (desc .exit)) b (now (out .exit)) ≡ Receive.publish (stateOf (now (w .entry))) (now (out .entry)) (now (desc .entry)) b) ⌝ }
+    ensures { λ r. ⌜ ((b : List ℕ) → length b ≡ n
+        → inWords (r .code) (r .len) (now (w .exit)) (now (desc .exit)) b (now (out .exit))
+        ≡ Receive.publish (stateOf (now (w .entry))) (now (out .entry)) (now (desc .entry)) b) ⌝ }
 {
     let s = counts_of(&w[..]);
     let header = w[HEADER];
@@ -155,14 +167,16 @@ fn publish_at(w: &mut [u32; STATE_WORDS], desc: &mut [u32], n: usize, out: &mut 
     Laid { code: 0, len }
 }
 
-// Publishes HEAD past the message, and lays the copy at the front of the output where it is well formed. The ring is not read.
+// Publishes HEAD past the message, and lays the copy at the front of the output where it is well formed. The ring is
+// not read.
 pub fn receive_publish(
     w: &mut [u32; STATE_WORDS],
     desc: &mut [u32],
     buf: &[u32],
     out: &mut [u32],
 ) -> Laid
-    ensures { λ r. ⌜ inWords (r .code) (r .len) (now (w .exit)) (now (desc .exit)) (now (buf .entry)) (now (out .exit)) ≡ Receive.publish (stateOf (now (w .entry))) (now (out .entry)) (now (desc .entry)) (now (buf .entry)) ⌝ }
+    ensures { λ r. ⌜ inWords (r .code) (r .len) (now (w .exit)) (now (desc .exit)) (now (buf .entry)) (now (out .exit))
+        ≡ Receive.publish (stateOf (now (w .entry))) (now (out .entry)) (now (desc .entry)) (now (buf .entry)) ⌝ }
 {
     publish_at(w, desc, buf.len(), out)
 }

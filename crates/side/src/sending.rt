@@ -23,7 +23,8 @@ use runs::past;
 
 // A whole send.
 pub fn send(w: &mut [u32; STATE_WORDS], desc: &mut [u32], buf: &mut [u32], msg: &[u32]) -> u32
-    ensures { λ r. ⌜ inWords r 0 (now (w .exit)) (now (desc .exit)) (now (buf .exit)) [] ≡ Send.whole (stateOf (now (w .entry))) (now (msg .entry)) (now (desc .entry)) (now (buf .entry)) ⌝ }
+    ensures { λ r. ⌜ inWords r 0 (now (w .exit)) (now (desc .exit)) (now (buf .exit)) []
+        ≡ Send.whole (stateOf (now (w .entry))) (now (msg .entry)) (now (desc .entry)) (now (buf .entry)) ⌝ }
 {
     let s = counts_of(&w[..]);
     let fits = is_idle(&w[..], s, buf.len());
@@ -34,10 +35,11 @@ pub fn send(w: &mut [u32; STATE_WORDS], desc: &mut [u32], buf: &mut [u32], msg: 
     end.code
 }
 
-// Judges a message and the descriptor, and takes a copy of the message. Its first two dwords are read once: those that are judged are those that are
-// copied.
+// Judges a message and the descriptor, and takes a copy of the message. Its first two dwords are read once: those that
+// are judged are those that are copied.
 pub fn send_look(w: &mut [u32; STATE_WORDS], desc: &mut [u32], buf: &[u32], msg: &[u32]) -> u32
-    ensures { λ r. ⌜ inWords r 0 (now (w .exit)) (now (desc .exit)) (now (buf .entry)) [] ≡ Send.look (stateOf (now (w .entry))) (now (msg .entry)) (now (desc .entry)) (now (buf .entry)) ⌝ }
+    ensures { λ r. ⌜ inWords r 0 (now (w .exit)) (now (desc .exit)) (now (buf .entry)) []
+        ≡ Send.look (stateOf (now (w .entry))) (now (msg .entry)) (now (desc .entry)) (now (buf .entry)) ⌝ }
 {
     let n = buf.len();
     let s = counts_of(&w[..]);
@@ -55,7 +57,8 @@ pub fn send_look(w: &mut [u32; STATE_WORDS], desc: &mut [u32], buf: &[u32], msg:
 
 // Stores the next dword of the copy in the buffer.
 pub fn send_store(w: &mut [u32; STATE_WORDS], desc: &[u32], buf: &mut [u32]) -> u32
-    ensures { λ r. ⌜ inWords r 0 (now (w .exit)) (now (desc .entry)) (now (buf .exit)) [] ≡ Send.move (stateOf (now (w .entry))) (now (desc .entry)) (now (buf .entry)) ⌝ }
+    ensures { λ r. ⌜ inWords r 0 (now (w .exit)) (now (desc .entry)) (now (buf .exit)) []
+        ≡ Send.move (stateOf (now (w .entry))) (now (desc .entry)) (now (buf .entry)) ⌝ }
 {
     let n = buf.len();
     let s = counts_of(&w[..]);
@@ -72,7 +75,8 @@ pub fn send_store(w: &mut [u32; STATE_WORDS], desc: &[u32], buf: &mut [u32]) -> 
     0
 }
 
-// Stores dwords `moved` to len - 1 of the copy in the ring, in their runs. The first two dwords of the copy were judged: those are given by value.
+// Stores dwords `moved` to len - 1 of the copy in the ring, in their runs. The first two dwords of the copy were
+// judged: those are given by value.
 fn store_left(
     buf: &mut [u32],
     w: &[u32],
@@ -82,8 +86,12 @@ fn store_left(
     moved: usize,
     len: usize,
 )
-    requires { ⌜ (length (now w) ≡ 260) × (header ≡ getD (now w) 4 0) × (word ≡ getD (now w) 5 0) × (moved ≤ len) × (2 ≤ len) × (len ≤ 256) × (own < length (now buf)) × (1024 ≤ length (now buf)) × (length (now buf) ≤ 16384) ⌝ }
-    ensures { λ _. ⌜ now (buf .exit) ≡ stored (now (buf .entry)) (length (now (buf .entry))) (own + moved) (take (len - moved) (drop moved (stateOf (now (w .entry)) .copy))) ⌝ }
+    requires { ⌜ (length (now w) ≡ 260) × (header ≡ getD (now w) 4 0) × (word ≡ getD (now w) 5 0)
+        × (moved ≤ len) × (2 ≤ len) × (len ≤ 256) × (own < length (now buf)) × (1024 ≤ length (now buf))
+        × (length (now buf) ≤ 16384) ⌝ }
+    ensures { λ _. ⌜ now (buf .exit)
+        ≡ stored (now (buf .entry)) (length (now (buf .entry))) (own + moved)
+        (take (len - moved) (drop moved (stateOf (now (w .entry)) .copy))) ⌝ }
 {
     let n = buf.len();
     let copy = &w[COPY..];
@@ -101,7 +109,8 @@ fn store_left(
 
 // Stores every dword of the copy that is left, at once.
 pub fn send_store_all(w: &mut [u32; STATE_WORDS], desc: &[u32], buf: &mut [u32]) -> u32
-    ensures { λ r. ⌜ inWords r 0 (now (w .exit)) (now (desc .entry)) (now (buf .exit)) [] ≡ Send.moveAll (stateOf (now (w .entry))) (now (desc .entry)) (now (buf .entry)) ⌝ }
+    ensures { λ r. ⌜ inWords r 0 (now (w .exit)) (now (desc .entry)) (now (buf .exit)) []
+        ≡ Send.moveAll (stateOf (now (w .entry))) (now (desc .entry)) (now (buf .entry)) ⌝ }
 {
     let n = buf.len();
     let s = counts_of(&w[..]);
@@ -120,7 +129,9 @@ pub fn send_store_all(w: &mut [u32; STATE_WORDS], desc: &[u32], buf: &mut [u32])
 
 // A publish over a ring of n dwords, which it is not lent.
 fn publish_at(w: &mut [u32; STATE_WORDS], desc: &mut [u32], n: usize) -> u32
-    ensures { λ r. ⌜ ((b : List ℕ) → length b ≡ n → inWords r 0 (now (w .exit)) (now (desc .exit)) b [] ≡ Send.publish (stateOf (now (w .entry))) (now (desc .entry)) b) ⌝ }
+    ensures { λ r. ⌜ ((b : List ℕ) → length b ≡ n
+        → inWords r 0 (now (w .exit)) (now (desc .exit)) b []
+        ≡ Send.publish (stateOf (now (w .entry))) (now (desc .entry)) b) ⌝ }
 {
     let s = counts_of(&w[..]);
     let code = sending_number(s, w[HEADER], w[SECOND], desc.len(), n, s.len <= s.moved);
@@ -135,7 +146,8 @@ fn publish_at(w: &mut [u32; STATE_WORDS], desc: &mut [u32], n: usize) -> u32
 
 // Publishes TAIL past the message, once all of it is stored.
 pub fn send_publish(w: &mut [u32; STATE_WORDS], desc: &mut [u32], buf: &[u32]) -> u32
-    ensures { λ r. ⌜ inWords r 0 (now (w .exit)) (now (desc .exit)) (now (buf .entry)) [] ≡ Send.publish (stateOf (now (w .entry))) (now (desc .entry)) (now (buf .entry)) ⌝ }
+    ensures { λ r. ⌜ inWords r 0 (now (w .exit)) (now (desc .exit)) (now (buf .entry)) []
+        ≡ Send.publish (stateOf (now (w .entry))) (now (desc .entry)) (now (buf .entry)) ⌝ }
 {
     publish_at(w, desc, buf.len())
 }

@@ -1,4 +1,5 @@
-// Sides that make whole calls only, in two words each: between its calls such a side is idle, so that there is no copy to keep and no zeros to test.
+// Sides that make whole calls only, in two words each: between its calls such a side is idle, so that there is no copy
+// to keep and no zeros to test.
 ghost use mathlib.Core.Path.{_≡_};
 ghost use mathlib.Core.List.{[]};
 ghost use lib.ListN.{length};
@@ -58,7 +59,8 @@ pub fn whole_open(
     desc: &mut [u32],
     buf: &[u32],
 ) -> u32
-    ensures { λ r. ⌜ openedTwoWords r (now (sender .exit)) (now (receiver .exit)) (now (desc .exit)) (now (buf .entry)) ≡ opening (now (desc .entry)) (now (buf .entry)) ⌝ }
+    ensures { λ r. ⌜ openedTwoWords r (now (sender .exit)) (now (receiver .exit)) (now (desc .exit)) (now (buf .entry))
+        ≡ opening (now (desc .entry)) (now (buf .entry)) ⌝ }
 {
     let code = open_number(desc.len(), buf.len());
     if code != 0 {
@@ -75,7 +77,8 @@ pub fn whole_open(
 
 // A whole send. The own tail moves where the message was sent.
 pub fn whole_send(w: &mut [u32; WHOLE_WORDS], desc: &mut [u32], buf: &mut [u32], msg: &[u32]) -> u32
-    ensures { λ r. ⌜ inTwoWords r 0 (now (w .exit)) (now (desc .exit)) (now (buf .exit)) [] ≡ Send.whole (wholeOf (now (w .entry))) (now (msg .entry)) (now (desc .entry)) (now (buf .entry)) ⌝ }
+    ensures { λ r. ⌜ inTwoWords r 0 (now (w .exit)) (now (desc .exit)) (now (buf .exit)) []
+        ≡ Send.whole (wholeOf (now (w .entry))) (now (msg .entry)) (now (desc .entry)) (now (buf .entry)) ⌝ }
 {
     let s = numbers_of(&w[..]);
     let fits = fits_whole(buf.len(), s);
@@ -93,7 +96,8 @@ pub fn whole_receive(
     buf: &[u32],
     out: &mut [u32],
 ) -> Laid
-    ensures { λ r. ⌜ inTwoWords (r .code) (r .len) (now (w .exit)) (now (desc .exit)) (now (buf .entry)) (now (out .exit)) ≡ Receive.whole (wholeOf (now (w .entry))) (now (out .entry)) (now (desc .entry)) (now (buf .entry)) ⌝ }
+    ensures { λ r. ⌜ inTwoWords (r .code) (r .len) (now (w .exit)) (now (desc .exit)) (now (buf .entry)) (now (out .exit))
+        ≡ Receive.whole (wholeOf (now (w .entry))) (now (out .entry)) (now (desc .entry)) (now (buf .entry)) ⌝ }
 {
     let s = numbers_of(&w[..]);
     let fits = fits_whole(buf.len(), s);

@@ -79,14 +79,17 @@ pub(crate) fn make(w: &mut [u32], n: u32)
 // Puts a message of these two dwords and the others at the front of the copy.
 fn fill_copy(w: &mut [u32], header: u32, word: u32, rest: &[u32])
     requires { ⌜ 4 + (2 + length (now rest)) ≤ length (now w) ⌝ }
-    ensures { λ _. ⌜ now (w .exit) ≡ take 4 (now (w .entry)) ++ ((header ∷ word ∷ now (rest .entry)) ++ drop (length (header ∷ word ∷ now (rest .entry))) (drop 4 (now (w .entry)))) ⌝ }
+    ensures { λ _. ⌜ now (w .exit)
+        ≡ take 4 (now (w .entry)) ++ ((header ∷ word ∷ now (rest .entry))
+        ++ drop (length (header ∷ word ∷ now (rest .entry))) (drop 4 (now (w .entry)))) ⌝ }
 {
     runs::lay(&mut w[COPY..], header, word, rest);
 }
 
 // Makes the words of an idle state active with a message.
 pub(crate) fn load(w: &mut [u32], header: u32, word: u32, rest: &[u32])
-    requires { ⌜ (length (now w) ≡ 260) × (2 + length (now rest) ≤ 256) × (stateOf (now w) .moved ≡ 0) × (stateOf (now w) .copy ≡ zeros) ⌝ }
+    requires { ⌜ (length (now w) ≡ 260) × (2 + length (now rest) ≤ 256) × (stateOf (now w) .moved ≡ 0)
+        × (stateOf (now w) .copy ≡ zeros) ⌝ }
     ensures { λ _. ⌜ stateOf (now (w .exit)) ≡ Send.loaded (stateOf (now (w .entry))) (header ∷ word ∷ now (rest .entry)) ⌝ }
 {
     fill_copy(w, header, word, rest);

@@ -1,4 +1,5 @@
--- `opening::clear` meets its contract: after i turns the first i words are 0 and the others as they were. Assumes nothing.
+-- `opening::clear` meets its contract: after i turns the first i words are 0 and the others as they were. Assumes
+-- nothing.
 use Prim.Native.Nat.{_-_, _≤_}
 use mathlib.Core.Path.{_≡_, refl, ap, _∙_}
 use mathlib.Core.List.{_++_, append-nil}
@@ -25,14 +26,18 @@ loop-again : tie.Need-loop-again Inv-loop μ-loop
 loop-again c =
     let i = c .before .loop .i in
     let d = now (c .before .before .args .words) in
-    let l = c .before .loop .inv .1 in
-    (omega arith, length-set (c .before .loop .words) i 0 ∙ l, ap (λ w. set w i 0) (c .before .loop .inv .2) ∙ fill-more i 0 d (omega arith))
+    let l = c .before .loop .inv .1 in (
+      omega arith,
+      length-set (c .before .loop .words) i 0 ∙ l,
+      ap (λ w. set w i 0) (c .before .loop .inv .2) ∙ fill-more i 0 d (omega arith),
+    )
 
 returns : tie.Need-returns Inv-loop μ-loop
 returns c =
     let d = now (c .before .before .args .words) in
     let e : c .before .loop .i ≡ length d = omega arith in
-    c .before .loop .inv .2 ∙ ap (λ k. replicate k 0 ++ drop k d) e ∙ ap (λ t. replicate (length d) 0 ++ t) (drop-length d) ∙ append-nil (replicate (length d) 0)
+    c .before .loop .inv .2 ∙ ap (λ k. replicate k 0 ++ drop k d) e
+    ∙ ap (λ t. replicate (length d) 0 ++ t) (drop-length d) ∙ append-nil (replicate (length d) 0)
 
 pub clear-spec : {M : Type 1} → statement M
 clear-spec =

@@ -10,14 +10,18 @@ use Rattle.channel.proofs.opening.open_channel.Tie as tie
 returns : tie.Need-returns
 unfolding openBy
 returns c =
-    simp (← c .before .before .before .open-number .ensures, ne-eqb _ _ (c .before .before .if1 .taken), c .before .idle-at .ensures, c .idle-at2 .ensures)
+    let refused = c .before .before in
+    simp (← refused .before .open-number .ensures, ne-eqb _ _ (refused .if1 .taken), c .before .idle-at .ensures, c .idle-at2 .ensures)
 
 returns-2 : tie.Need-returns-2
 unfolding openBy
 returns-2 c =
-    let n = c .before .before .before .before .before .before .before .open-number .ensures in
-    let z = c .before .before .before .before .before .before .if1 .left in
-    rw (← n, z) (simp (c .before .before .before .before .clear .ensures, open-sixteen _ _ (sym n ∙ z), c .before .idle-at3 .ensures, c .idle-at4 .ensures))
+    let after-clear = c .before .before .before .before in
+    let opens = after-clear .before .before in
+    let n = opens .before .open-number .ensures in
+    let z = opens .if1 .left in
+    let sixteen = open-sixteen _ _ (sym n ∙ z) in
+    rw (← n, z) (simp (after-clear .clear .ensures, sixteen, c .before .idle-at3 .ensures, c .idle-at4 .ensures))
 
 pub open-channel-spec : {M : Type 1} → statement M
 open-channel-spec =

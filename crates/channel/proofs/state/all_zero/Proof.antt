@@ -9,8 +9,10 @@ use Rattle.channel.proofs.state.all_zero.Tie as tie
 
 returns : tie.Need-returns
 returns c =
-    let s = now (c .before .before .before .before .before .before .before .before .before .before .args .s) in
-    rw (c .before .before .parts-zero .ensures, c .rest-zero .ensures) (zero-slices (length s / 8) s)
+    let after-parts = c .before .before in
+    let after-back = after-parts .before .before .before .before .before in
+    let s = now (after-back .before .before .before .args .s) in
+    rw (after-parts .parts-zero .ensures, c .rest-zero .ensures) (zero-slices (length s / 8) s)
 
 pub all-zero-spec : {M : Type 1} → statement M
 all-zero-spec =

@@ -1,4 +1,5 @@
--- `state::fits_receiving` meets its contract: at each `return` a test of the definition fails; that L is from 1 to 256 follows from the header. Assumes nothing.
+-- `state::fits_receiving` meets its contract: at each `return` a test of the definition fails; that L is from 1 to 256
+-- follows from the header. Assumes nothing.
 use mathlib.Core.Path.{_≡_, sym, _∙_}
 use mathlib.Core.Bool.{and-true}
 use native.Mathlib.Omega.{arith}
@@ -26,7 +27,8 @@ returns-4 c = refuted _ (λ e. omega (arith, receive-moved _ _ e, c .if4 .taken)
 returns-5 : tie.Need-returns-5
 unfolding activeReceive
 returns-5 c =
-    let a = c .before .before .before .before .before .before .before .before .before .before .args in
+    let after-length = c .before .before .before .before .before in
+    let a = after-length .before .before .before .before .before .args in
     let l : a .s .len ≡ totalLength (a .header) = omega arith in
     rw (
       eq-eqb (a .s .n) (a .n) (omega arith),

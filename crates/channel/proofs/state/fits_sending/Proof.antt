@@ -32,7 +32,8 @@ returns-6 c =
 returns-7 : tie.Need-returns-7
 unfolding activeSend
 returns-7 c =
-    let a = c .before .before .before .before .before .before .before .before .before .before .before .before .before .before .args in
+    let half = c .before .before .before .before .before .before .before in
+    let a = half .before .before .before .before .before .before .before .args in
     rw (
       eq-eqb (a .s .n) (a .n) (omega arith),
       lt-ltb (a .s .own) (a .n) (omega arith),
@@ -45,4 +46,5 @@ returns-7 c =
 
 pub fits-sending-spec : {M : Type 1} → statement M
 fits-sending-spec =
-    tie.close (tie.spec returns returns-2 returns-3 returns-4 returns-5 (λ c κs. search needs) returns-6 (λ c κs. search needs) returns-7)
+    tie.close
+    (tie.spec returns returns-2 returns-3 returns-4 returns-5 (λ c κs. search needs) returns-6 (λ c κs. search needs) returns-7)

@@ -1,4 +1,5 @@
--- `state::parts_zero` meets its contract: after k turns each join is 0 just where the first 2k dwords of its part are. Assumes nothing.
+-- `state::parts_zero` meets its contract: after k turns each join is 0 just where the first 2k dwords of its part are.
+-- Assumes nothing.
 use Prim.Native.Nat.{_-_, _*_, _≤_}
 use mathlib.Core.Path.{_≡_, refl, _∙_}
 use native.Mathlib.Omega.{arith}
@@ -46,8 +47,9 @@ loop-less c = omega arith
 
 loop-again : tie.Need-loop-again Inv-loop μ-loop
 loop-again c =
-    let l = c .before .before .before .before .before .loop in
-    let a = c .before .before .before .before .before .before .before .before .before .before .args in (
+    let at-loop = c .before .before .before .before .before in
+    let l = at-loop .loop in
+    let a = at-loop .before .before .before .before .before .args in (
       omega arith,
       rw (c .before .before .before .pair-at .ensures) (pair-more (l .a) (now (a .p)) (l .k) (omega arith) (l .inv .1)),
       rw (c .before .before .pair-at2 .ensures) (pair-more (l .b) (now (a .q)) (l .k) (omega arith) (l .inv .2)),

@@ -1,4 +1,5 @@
--- `state::rest_zero` meets its contract: all are 0 just where the join of the first i is 0 and so are the others. Assumes nothing.
+-- `state::rest_zero` meets its contract: all are 0 just where the join of the first i is 0 and so are the others.
+-- Assumes nothing.
 use Prim.Native.Nat.{_-_, _≤_}
 use mathlib.Core.Path.{_≡_, refl, sym, _∙_}
 use mathlib.Core.Bool.{_&&_}

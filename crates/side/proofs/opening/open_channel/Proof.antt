@@ -11,8 +11,10 @@ use Rattle.side.proofs.opening.open_channel.Tie as tie
 returns : tie.Need-returns
 unfolding openBy
 returns c =
-    let r = c .before .before .before .before in
-    simp (← r .before .open-number .ensures, ne-eqb _ _ (r .if1 .taken), c .before .before .make .ensures, c .make2 .ensures)
+    let after-make = c .before .before in
+    let refused = after-make .before .before in
+    let number = refused .before .open-number .ensures in
+    simp (← number, ne-eqb _ _ (refused .if1 .taken), after-make .make .ensures, c .make2 .ensures)
 
 cast-n : tie.Need-cast-n
 cast-n c = omega (arith, open-high _ _ (sym (c .before .open-number .ensures) ∙ c .if1 .left))
@@ -20,11 +22,13 @@ cast-n c = omega (arith, open-high _ _ (sym (c .before .open-number .ensures) �
 returns-2 : tie.Need-returns-2
 unfolding openBy
 returns-2 c =
-    let f = c .before .before .before .before .before .before .before .before in
-    let e = sym (f .before .open-number .ensures) ∙ f .if1 .left in
+    let after-make = c .before .before in
+    let after-clear = after-make .before .before .before .before in
+    let opens-on = after-clear .before .before in
+    let e = sym (opens-on .before .open-number .ensures) ∙ opens-on .if1 .left in
     let sixteen = open-sixteen _ _ e in
     let opens = rw sixteen at e in
-    simp (c .before .before .before .before .before .before .clear .ensures, sixteen, opens, c .before .before .make3 .ensures, c .make4 .ensures)
+    simp (after-clear .clear .ensures, sixteen, opens, after-make .make3 .ensures, c .make4 .ensures)
 
 pub open-channel-spec : {M : Type 1} → statement M
 open-channel-spec =

@@ -1,5 +1,6 @@
--- `sending::publish_at` meets its contract: a number other than 0 leaves all; after 0 the state is active and fits. Assumes nothing.
-use mathlib.Core.Path.{_≡_, refl, sym, ap, _∙_}
+-- `sending::publish_at` meets its contract: a number other than 0 leaves all; after 0 the state is active and fits.
+-- Assumes nothing.
+use mathlib.Core.Path.{_≡_, refl, sym, _∙_}
 use lib.ListN.{length}
 use denote.Ref.{now}
 use borrow.Author.Needs.{needs}
@@ -7,34 +8,47 @@ use borrow.Author.Tests.{ne-eqb}
 use Rattle.ring.specs.Numbers.{firstNeeds, need}
 use Rattle.channel.specs.Send
 use Rattle.channel.specs.State.{activeSend}
-use Rattle.channel.specs.declared.state.Counts.{Counts}
-use Rattle.channel.proofs.Going.{Going, going-past, going-send}
+use Rattle.channel.proofs.Going.{Going, going-send}
 use lib.Dec.{leb}
 use Rattle.side.specs.Words.{stateOf}
-use Rattle.side.proofs.InWords.{n-is, words-sending}
+use Rattle.side.proofs.InWords.{counts-past, n-is, words-sending}
 use Rattle.side.proofs.sending.publish_at.Statement.{statement}
 use Rattle.side.proofs.sending.publish_at.Tie as tie
 
+-- where the state's numbers are taken, and where the call starts
+abbrev after-counts : tie.After-sending-number → tie.After-counts-of
+after-counts q = q .before .before .before .before
+
+abbrev start : tie.After-sending-number → tie.Start
+start q = after-counts q .before .before .before .before
+
 -- the number is that of a publish
-number : (q : tie.After-sending-number) → let a = q .before .before .before .before .before .before .before .before .args in let s = stateOf (now (a .w)) in q .sending-number .result ≡ firstNeeds (length (now (a .desc))) (a .n) (activeSend (a .n) s) (need (leb (s .len) (s .moved)) 12 0)
-number q = rw (q .before .before .before .before .counts-of .ensures, words-sending) at (q .sending-number .ensures)
+number :
+    (q : tie.After-sending-number)
+    → let a = start q .args in
+    let s = stateOf (now (a .w)) in
+    q .sending-number .result
+    ≡ firstNeeds (length (now (a .desc))) (a .n) (activeSend (a .n) s) (need (leb (s .len) (s .moved)) 12 0)
+number q = rw (after-counts q .counts-of .ensures, words-sending) at (q .sending-number .ensures)
 
 returns : tie.Need-returns
 unfolding Send.publishBy Send.publishNumber
 returns c b e = simp (e, ← number (c .before), ne-eqb _ _ (c .if1 .taken))
 
 -- what a step that goes on has
-fits : (c : tie.Else1) → let a = c .before .before .before .before .before .before .before .before .before .args in Going (a .n) (stateOf (now (a .w)))
+fits : (c : tie.Else1) → let a = start (c .before) .args in Going (a .n) (stateOf (now (a .w)))
 fits c = going-send _ _ _ _ 0 refl refl refl (sym (number (c .before)) ∙ c .if1 .left)
 
 returns-2 : tie.Need-returns-2
 unfolding Send.publishBy Send.publishNumber
 returns-2 c b e =
-    let f = c .before .before .before .before .before .before .before in
-    let w = now (f .before .before .before .before .before .before .before .before .before .args .w) in
-    let s = f .before .before .before .before .before .counts-of .ensures in
-    let p = rw (ap (λ (x : Counts). x .own) s, ap (λ (x : Counts). x .len) s) at (c .before .before .before .before .before .before .past .ensures .0) ∙ going-past _ _ (fits f) in
-    simp (e, ← number (f .before), f .if1 .left, c .before .before .before .before .publish-tail .ensures, c .rest-at .ensures, p, n-is w)
+    let after-publish = c .before .before .before .before in
+    let after-past = after-publish .before .before in
+    let goes-on = after-past .before in
+    let q = goes-on .before in
+    let w = now (start q .args .w) in
+    let p = after-past .past .ensures .0 ∙ counts-past _ _ _ (after-counts q .counts-of .ensures) (fits goes-on) in
+    simp (e, ← number q, goes-on .if1 .left, after-publish .publish-tail .ensures, c .rest-at .ensures, p, n-is w)
 
 pub publish-at-spec : {M : Type 1} → statement M
 publish-at-spec =

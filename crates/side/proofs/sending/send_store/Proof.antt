@@ -1,4 +1,5 @@
--- `sending::send_store` meets its contract: a number other than 0 leaves all; after 0 the state is active and fits. Assumes nothing.
+-- `sending::send_store` meets its contract: a number other than 0 leaves all; after 0 the state is active and fits.
+-- Assumes nothing.
 use Prim.Native.Nat.{_+_, _<_}
 use mathlib.Core.Path.{_≡_, refl, sym, ap, _∙_}
 use native.Mathlib.Omega.{arith}
@@ -8,20 +9,26 @@ use borrow.Author.Needs.{needs}
 use borrow.Author.Tests.{ltb-true, ne-eqb}
 use Rattle.channel.specs.Send
 use Rattle.channel.specs.declared.state.Counts.{Counts}
-use Rattle.channel.proofs.Going.{Going, going-place, going-send, going-test}
+use Rattle.channel.proofs.Going.{Going, going-send, going-test}
 use Rattle.side.specs.Words.{stateOf}
-use Rattle.side.proofs.InWords.{moved-set, words-sending}
+use Rattle.side.proofs.InWords.{counts-place, moved-set, words-sending}
 use Rattle.side.proofs.sending.send_store.Statement.{statement}
 use Rattle.side.proofs.sending.send_store.Tie as tie
 
--- where the call starts
+-- where the state's numbers are taken, and where the call starts
+abbrev after-counts : tie.After-sending-number → tie.After-counts-of
+after-counts q = q .before .before .before .before
+
 abbrev start : tie.After-sending-number → tie.Start
-start q = q .before .before .before .before .before .before .before .before .before
+start q = after-counts q .before .before .before .before .before
 
 -- the number is that of a move
-number : (q : tie.After-sending-number) → let a = start q .args in q .sending-number .result ≡ Send.moveNumber (stateOf (now (a .w))) (now (a .desc)) (now (a .buf))
+number :
+    (q : tie.After-sending-number)
+    → let a = start q .args in
+    q .sending-number .result ≡ Send.moveNumber (stateOf (now (a .w))) (now (a .desc)) (now (a .buf))
 unfolding Send.moveNumber
-number q = rw (q .before .before .before .before .counts-of .ensures, words-sending) at (q .sending-number .ensures)
+number q = rw (after-counts q .counts-of .ensures, words-sending) at (q .sending-number .ensures)
 
 returns : tie.Need-returns
 unfolding Send.moveBy
@@ -32,39 +39,40 @@ fits : (c : tie.Else1) → let a = start (c .before) .args in Going (length (now
 unfolding Send.moveNumber
 fits c = going-send _ _ _ _ 0 refl refl refl (sym (number (c .before)) ∙ c .if1 .left)
 
-below : (c : tie.Else1) → let s = stateOf (now (start (c .before) .args .w)) in s .moved < s .len
+more : (c : tie.Else1) → let s = stateOf (now (start (c .before) .args .w)) in s .moved < s .len
 unfolding Send.moveNumber
-below c = ltb-true _ _ (going-test _ _ _ _ (sym (number (c .before)) ∙ c .if1 .left))
+more c = ltb-true _ _ (going-test _ _ _ _ (sym (number (c .before)) ∙ c .if1 .left))
 
-moved-is : (c : tie.Else1) → c .before .before .before .before .before .counts-of .result .moved ≡ stateOf (now (start (c .before) .args .w)) .moved
-moved-is c = ap (λ (x : Counts). x .moved) (c .before .before .before .before .before .counts-of .ensures)
+moved-is :
+    (c : tie.Else1) → after-counts (c .before) .counts-of .result .moved ≡ stateOf (now (start (c .before) .args .w)) .moved
+moved-is c = ap (λ (x : Counts). x .moved) (after-counts (c .before) .counts-of .ensures)
+
+below : (c : tie.Else1) → after-counts (c .before) .counts-of .result .moved < 256
+below c = omega (arith, moved-is c, more c, fits c .short)
 
 copy-dword-requires : tie.Need-copy-dword-requires
-copy-dword-requires c κs =
-    let e = c .before .before in
-    (refl, refl, omega (arith, moved-is e, below e, fits e .short))
+copy-dword-requires c κs = (refl, refl, omega (arith, below (c .before .before)))
 
-add-w : tie.Need-add-w
-add-w c = let e = c .before .before .before .before .before .before .before .before in omega (arith, moved-is e, below e, fits e .short)
-
-cast-w : tie.Need-cast-w
-cast-w c = let e = c .before .before .before .before .before .before .before .before in omega (arith, moved-is e, below e, fits e .short)
+-- the step that goes on, from behind its store
+abbrev goes-on : tie.After-slice-known2 → tie.Else1
+goes-on c =
+    let after-copy = c .before .before .before .before .before in
+    after-copy .before .before .before
 
 returns-2 : tie.Need-returns-2
 unfolding Send.moveBy
 returns-2 c =
-    let e = c .before .before .before .before .before .before .before .before in
+    let e = goes-on c in
     let w = now (start (e .before) .args .w) in
-    let own = ap (λ (x : Counts). x .own) (e .before .before .before .before .before .counts-of .ensures) in
+    let after-put = c .before .before in
+    let p = after-put .before .past .ensures .0 ∙ counts-place _ _ _ (after-counts (e .before) .counts-of .ensures) (fits e) in
     simp (
       ← number (e .before),
       e .if1 .left,
-      c .before .before .put .ensures,
-      c .before .before .before .past .ensures .0,
-      own,
-      c .before .before .before .before .before .copy-dword .ensures,
+      after-put .put .ensures,
+      p,
+      after-put .before .before .before .copy-dword .ensures,
       moved-is e,
-      going-place _ _ (fits e),
       moved-set (stateOf w .moved + 1) w (search needs),
     )
 
@@ -80,8 +88,8 @@ send-store-spec =
     copy-dword-requires
     (λ c κs. search needs)
     (λ c κs. search needs)
-    add-w
-    cast-w
+    (λ c. omega (arith, below (goes-on c)))
+    (λ c. omega (arith, below (goes-on c)))
     (λ c. search needs)
     (λ c. search needs)
     returns-2)

@@ -1,48 +1,47 @@
--- `whole::whole_receive` meets its contract: its two words say whether it fits, and an accepted call moves its own offset. Assumes nothing.
-use Prim.Native.Nat.{_<_, _^_}
+-- `whole::whole_receive` meets its contract: its two words say whether it fits, and an accepted call moves its own
+-- offset. Assumes nothing.
 use native.Mathlib.Omega.{arith}
 use denote.Ref.{now}
 use borrow.Author.Needs.{needs}
 use Rattle.side.specs.Words.{wholeOf}
 use Rattle.side.proofs.TwoWords.{own-whole}
-use Rattle.side.proofs.Wholes.{ReceivedAtOnce, received-own, received-whole, received-refused}
+use Rattle.side.proofs.Wholes.{WholeReceived, whole-received}
 use Rattle.side.proofs.whole.whole_receive.Statement.{statement}
 use Rattle.side.proofs.whole.whole_receive.Tie as tie
 
--- where the call starts
-abbrev start : tie.After-whole-receive → tie.Start
-start q = q .before .before .before .before .before .before .before .before .before .before
+-- where the receive at once is made, and where the call starts
+abbrev after-whole : tie.After-struct-known2 → tie.After-whole-receive
+after-whole c = c .before .before .before .before .before .before
 
--- what the whole call at once says of the side in its words
+abbrev start : tie.After-whole-receive → tie.Start
+start q =
+    let after-fits = q .before .before .before in
+    after-fits .before .before .before .before .before .before .before
+
+-- what the receive at once says of the side in its words
 said :
     (q : tie.After-whole-receive)
     → let a = start q .args in
-    ReceivedAtOnce (wholeOf (now (a .w))) (now (a .out)) (now (a .desc)) (now (a .buf)) (q .whole-receive .result) (q .whole-receive .last .1 .1 .0) (q .whole-receive .last .1 .1 .1 .1 .0)
+    let l = q .whole-receive .last .1 .1 in
+    WholeReceived (wholeOf (now (a .w))) (now (a .out)) (now (a .desc)) (now (a .buf))
+    (q .whole-receive .result) (l .0) (l .1 .1 .0)
 unfolding wholeOf
 said q =
-    rw (q .before .before .before .fits-whole .ensures, q .before .before .before .before .numbers-of .ensures .0, q .before .before .before .before .numbers-of .ensures .1)
-    at (q .whole-receive .ensures)
+    let after-fits = q .before .before .before in
+    let numbers = after-fits .before .numbers-of .ensures in
+    whole-received _ _ _ _ _ _ _ (rw (after-fits .fits-whole .ensures, numbers .0, numbers .1) at (q .whole-receive .ensures))
 
 cast-w : tie.Need-cast-w
-cast-w c =
-    let q = c .before .before .before .before .before .before .before .before in
-    let a = start q .args in
-    let l : q .whole-receive .result .own < 2 ^ 32 =
-    received-own (wholeOf (now (a .w))) (now (a .out)) (now (a .desc)) (now (a .buf)) (q .whole-receive .result) _ _ (said q) (c .before .if1 .taken) in
-    omega (arith, l)
+cast-w c = omega (arith, said (after-whole (c .before .before)) .own-fits (c .before .if1 .taken))
 
 returns : tie.Need-returns
 returns c =
-    let q = c .before .before .before .before .before .before .before .before in
-    let a = start q .args in
-    received-whole (wholeOf (now (a .w))) (now (a .out)) (now (a .desc)) (now (a .buf)) (q .whole-receive .result) _ _ (said q) (c .before .if1 .taken) _
-    (own-whole (q .whole-receive .result .own) (now (a .w)) (search needs))
+    let q = after-whole (c .before .before) in
+    let w = now (start q .args .w) in
+    said q .own-moves (c .before .if1 .taken) _ (own-whole (q .whole-receive .result .own) w (search needs))
 
 returns-2 : tie.Need-returns-2
-returns-2 c =
-    let q = c .before .before .before .before .before .before .before in
-    let a = start q .args in
-    received-refused (wholeOf (now (a .w))) (now (a .out)) (now (a .desc)) (now (a .buf)) (q .whole-receive .result) _ _ (said q) (c .if1 .left)
+returns-2 c = said (after-whole (c .before)) .state-stays (c .if1 .left)
 
 pub whole-receive-spec : {M : Type 1} → statement M
 whole-receive-spec =

@@ -7,13 +7,19 @@ use Rattle.side.proofs.words.copy_dword.Statement.{statement}
 use Rattle.side.proofs.words.copy_dword.Tie as tie
 
 returns : tie.Need-returns
-returns c = rw (c .if1 .taken) (c .before .before .pre .0 ∙ copy-at 0 (now (c .before .before .args .w)))
+returns c =
+    let start = c .before .before in
+    rw (c .if1 .taken) (start .pre .0 ∙ copy-at 0 (now (start .args .w)))
 
 returns-2 : tie.Need-returns-2
-returns-2 c = rw (c .if2 .taken) (c .before .before .before .pre .1 ∙ copy-at 1 (now (c .before .before .before .args .w)))
+returns-2 c =
+    let start = c .before .before .before in
+    rw (c .if2 .taken) (start .pre .1 ∙ copy-at 1 (now (start .args .w)))
 
 returns-3 : tie.Need-returns-3
-returns-3 c = c .dword-at .ensures ∙ copy-at (c .before .before .before .before .args .k) (now (c .before .before .before .before .args .w))
+returns-3 c =
+    let a = c .before .before .before .before .args in
+    c .dword-at .ensures ∙ copy-at (a .k) (now (a .w))
 
 pub copy-dword-spec : {M : Type 1} → statement M
 copy-dword-spec =

@@ -6,7 +6,9 @@ use Rattle.side.proofs.words.counts_of.Tie as tie
 
 returns : tie.Need-returns
 unfolding stateOf
-returns c = simp (c .wide4 .ensures, c .before .before .wide3 .ensures, c .before .before .before .before .wide2 .ensures, c .before .before .before .before .before .before .wide .ensures)
+returns c =
+    let after-own = c .before .before .before .before in
+    simp (c .wide4 .ensures, c .before .before .wide3 .ensures, after-own .wide2 .ensures, after-own .before .before .wide .ensures)
 
 pub counts-of-spec : {M : Type 1} → statement M
 counts-of-spec =

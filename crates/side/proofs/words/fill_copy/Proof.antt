@@ -14,8 +14,10 @@ use Rattle.side.proofs.words.fill_copy.Tie as tie
 returns : tie.Need-returns
 returns c =
     let a = c .before .before .before .before .before .before .args in
+    let w = now (a .w) in
     let m = a .header ∷ a .word ∷ now (a .rest) in
-    rw (c .before .before .lay .ensures, laid-there m (midOf 4 (length (now (a .w)) - 4) (now (a .w))) (simp (length-take, length-drop) (omega arith))) (put-copy m (now (a .w)) (omega arith))
+    let there = laid-there m (midOf 4 (length w - 4) w) (simp (length-take, length-drop) (omega arith)) in
+    rw (c .before .before .lay .ensures, there) (put-copy m w (omega arith))
 
 pub fill-copy-spec : {M : Type 1} → statement M
 fill-copy-spec =

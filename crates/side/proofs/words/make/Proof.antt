@@ -6,7 +6,11 @@ use Rattle.side.proofs.words.make.Statement.{statement}
 use Rattle.side.proofs.words.make.Tie as tie
 
 returns : tie.Need-returns
-returns c = made (c .before .before .before .before .before .args .n) _ (c .before .before .rest-at .last .0) (c .before .before .rest-at .kept .0 ∙ c .before .before .before .before .before .pre) (c .before .before .rest-at .ensures)
+returns c =
+    let after-rest = c .before .before in
+    let start = after-rest .before .before .before in
+    let r = after-rest .rest-at in
+    made (start .args .n) _ (r .last .0) (r .kept .0 ∙ start .pre) (r .ensures)
 
 pub make-spec : {M : Type 1} → statement M
 make-spec = tie.close (tie.spec (λ c κs. search needs) (λ c. search needs) (λ c. search needs) returns)

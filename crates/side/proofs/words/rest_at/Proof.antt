@@ -5,7 +5,18 @@ use Rattle.side.proofs.words.rest_at.Statement.{statement}
 use Rattle.side.proofs.words.rest_at.Tie as tie
 
 returns : tie.Need-returns
-returns c = rw (c .before .before .clear-copy .ensures) (rested (c .before .before .before .before .before .args .own) (c .before .before .before .before .before .args .w .now) (c .before .before .before .before .before .pre))
+returns c =
+    let start = c .before .before .before .before .before in
+    let a = start .args in
+    rw (c .before .before .clear-copy .ensures) (rested (a .own) (a .w .now) (start .pre))
 
 pub rest-at-spec : {M : Type 1} → statement M
-rest-at-spec = tie.close (tie.spec (λ c κs. search needs) (λ c. search needs) (λ c. search needs) (λ c. search needs) (λ c. search needs) returns)
+rest-at-spec =
+    tie.close
+    (tie.spec
+    (λ c κs. search needs)
+    (λ c. search needs)
+    (λ c. search needs)
+    (λ c. search needs)
+    (λ c. search needs)
+    returns)

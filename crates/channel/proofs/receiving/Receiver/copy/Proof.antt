@@ -19,7 +19,10 @@ unfolding moveNumber moveBy ofReceiver
 returns c = simp (← c .before .before .need .ensures, ← c .before .go-on-number .ensures, ne-eqb _ _ (c .if1 .taken))
 
 -- what the number 0 says: the state is active and fits, and there is a dword more
-fits : (c : tie.Else1) → let a = c .before .before .before .before .before .before .args in Going (length (now (a .buf))) (ofReceiver (a .self))
+fits :
+    (c : tie.Else1)
+    → let a = c .before .before .before .before .before .before .args in
+    Going (length (now (a .buf))) (ofReceiver (a .self))
 fits c = going-receive _ _ _ _ 0 refl refl refl (sym (c .before .go-on-number .ensures) ∙ c .if1 .left)
 
 more : (c : tie.Else1) → let s = c .before .before .before .before .before .before .args .self in s .moved < s .len
@@ -32,20 +35,13 @@ in-copy : (c : tie.Else1) → c .before .before .before .before .before .before 
 unfolding ofReceiver
 in-copy c = omega (arith, fits c, more c)
 
-mul-next : tie.Need-mul-next
-mul-next c = omega (arith, in-copy (c .before .before))
-
-element-write-next : tie.Need-element-write-next
-element-write-next c = in-copy (c .before .before)
-
-add-next : tie.Need-add-next
-add-next c = omega (arith, in-copy (c .before .before))
-
 returns-2 : tie.Need-returns-2
 unfolding moveNumber moveBy ofReceiver
 returns-2 c =
     let e = c .before .before in
-    simp (← e .before .before .need .ensures, ← e .before .go-on-number .ensures, e .if1 .left, c .dword-at .ensures, c .before .past .ensures .0, going-place _ _ (fits e))
+    let q = e .before in
+    let p = c .before .past .ensures .0 in
+    simp (← q .before .need .ensures, ← q .go-on-number .ensures, e .if1 .left, c .dword-at .ensures, p, going-place _ _ (fits e))
 
 pub copy-spec : {M : Type 1} → statement M
 copy-spec =
@@ -56,7 +52,7 @@ copy-spec =
     returns
     (λ c κs. search needs)
     (λ c κs. search needs)
-    mul-next
-    element-write-next
-    add-next
+    (λ c. omega (arith, in-copy (c .before .before)))
+    (λ c. omega (arith, in-copy (c .before .before)))
+    (λ c. omega (arith, in-copy (c .before .before)))
     returns-2)

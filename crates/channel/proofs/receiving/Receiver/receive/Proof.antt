@@ -11,15 +11,35 @@ use Rattle.channel.proofs.receiving.Receiver.receive.Tie as tie
 returns : tie.Need-returns
 unfolding ofReceiver
 returns c =
-    let a = c .before .before .before .before .before .before .before .before .before .before .before .before .before .before .args in
-    rw (receive-method (ofReceiver (a .self)) (now (a .out)) (now (a .desc)) (now (a .buf)) _ _ _ _ (c .before .before .before .before .before .before .before .before .before .before .is-idle .ensures) (c .before .before .before .before .before .before .before .whole-receive .ensures), moves-head (c .before .before .before .before .before .before .before .whole-receive .result .code) true (c .if1 .taken))
+    let after-whole = c .before .before .before .before .before .before .before in
+    let after-idle = after-whole .before .before .before in
+    let a = after-idle .before .before .before .before .args in
+    let r = after-whole .whole-receive in
+    let steps = receive-method (ofReceiver (a .self)) (now (a .out)) (now (a .desc)) (now (a .buf)) in
+    rw (steps _ _ _ _ (after-idle .is-idle .ensures) (r .ensures), moves-head (r .result .code) true (c .if1 .taken))
 
 returns-2 : tie.Need-returns-2
 unfolding ofReceiver
 returns-2 c =
-    let a = c .before .before .before .before .before .before .before .before .before .before .before .before .before .before .before .args in
-    rw (receive-method (ofReceiver (a .self)) (now (a .out)) (now (a .desc)) (now (a .buf)) _ _ _ _ (c .before .before .before .before .before .before .before .before .before .before .before .is-idle .ensures) (c .before .before .before .before .before .before .before .before .whole-receive .ensures), moves-head (c .before .before .before .before .before .before .before .before .whole-receive .result .code) false (c .before .if1 .left))
+    let moves = c .before in
+    let after-whole = moves .before .before .before .before .before .before .before in
+    let after-idle = after-whole .before .before .before in
+    let a = after-idle .before .before .before .before .args in
+    let r = after-whole .whole-receive in
+    let steps = receive-method (ofReceiver (a .self)) (now (a .out)) (now (a .desc)) (now (a .buf)) in
+    rw (steps _ _ _ _ (after-idle .is-idle .ensures) (r .ensures), moves-head (r .result .code) false (moves .if1 .left))
     (simp (c .idle-at .ensures))
 
 pub receive-spec : {M : Type 1} → statement M
-receive-spec = tie.close (tie.spec (λ c κs. search needs) (λ c κs. search needs) (λ c. search needs) (λ c. search needs) returns (λ c κs. search needs) (λ c. search needs) (λ c. search needs) returns-2)
+receive-spec =
+    tie.close
+    (tie.spec
+    (λ c κs. search needs)
+    (λ c κs. search needs)
+    (λ c. search needs)
+    (λ c. search needs)
+    returns
+    (λ c κs. search needs)
+    (λ c. search needs)
+    (λ c. search needs)
+    returns-2)

@@ -9,4 +9,5 @@ unfolding ofSender activeSend
 returns c = simp (c .sending-number .ensures, c .before .counts .ensures)
 
 pub go-on-number-spec : {M : Type 1} → statement M
-go-on-number-spec = tie.close (tie.spec (λ c κs. search needs) (λ c. search needs) (λ c. search needs) (λ c κs. search needs) returns)
+go-on-number-spec =
+    tie.close (tie.spec (λ c κs. search needs) (λ c. search needs) (λ c. search needs) (λ c κs. search needs) returns)

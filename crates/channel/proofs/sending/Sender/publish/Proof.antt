@@ -6,7 +6,9 @@ use Rattle.channel.proofs.sending.Sender.publish.Statement.{statement}
 use Rattle.channel.proofs.sending.Sender.publish.Tie as tie
 
 returns : tie.Need-returns
-returns c = c .before .before .publish-at .ensures (now (c .before .before .before .before .before .before .args .buf)) refl
+returns c =
+    let after-publish = c .before .before in
+    after-publish .publish-at .ensures (now (after-publish .before .before .before .before .args .buf)) refl
 
 pub publish-spec : {M : Type 1} → statement M
 publish-spec =

@@ -1,4 +1,5 @@
--- `Sender::publish_at` meets its contract: a number other than 0 leaves all; after 0 the state is active and fits. Assumes nothing.
+-- `Sender::publish_at` meets its contract: a number other than 0 leaves all; after 0 the state is active and fits.
+-- Assumes nothing.
 use mathlib.Core.Path.{refl, sym, _∙_}
 use borrow.Author.Needs.{needs}
 use borrow.Author.Tests.{ne-eqb}
@@ -19,9 +20,11 @@ fits c = going-send _ _ _ _ 0 refl refl refl (sym (c .before .go-on-number .ensu
 returns-2 : tie.Need-returns-2
 unfolding Send.publishBy Send.publishNumber ofSender
 returns-2 c b e =
-    let f = c .before .before .before .before .before .before in
-    let p = c .before .before .before .before .before .past .ensures .0 ∙ going-past _ _ (fits f) in
-    simp (e, ← f .before .go-on-number .ensures, f .if1 .left, c .before .before .before .publish-tail .ensures, p, c .idle-at .ensures)
+    let after-publish = c .before .before .before in
+    let after-past = after-publish .before .before in
+    let f = after-past .before in
+    let p = after-past .past .ensures .0 ∙ going-past _ _ (fits f) in
+    simp (e, ← f .before .go-on-number .ensures, f .if1 .left, after-publish .publish-tail .ensures, p, c .idle-at .ensures)
 
 pub publish-at-spec : {M : Type 1} → statement M
 publish-at-spec =

@@ -21,26 +21,24 @@ returns c = simp (← c .before .go-on-number .ensures, ne-eqb _ _ (c .if1 .take
 fits : (c : tie.Else1) → let a = c .before .before .before .before .args in Going (length (now (a .buf))) (ofSender (a .t1))
 fits c = going-send _ _ _ _ 0 refl refl refl (sym (c .before .go-on-number .ensures) ∙ c .if1 .left)
 
-below : (c : tie.Else1) → c .before .before .before .before .args .t1 .moved < c .before .before .before .before .args .t1 .len
-below c = ltb-true _ _ (going-test _ _ _ _ (sym (c .before .go-on-number .ensures) ∙ c .if1 .left))
+more : (c : tie.Else1) → let s = c .before .before .before .before .args .t1 in s .moved < s .len
+more c = ltb-true _ _ (going-test _ _ _ _ (sym (c .before .go-on-number .ensures) ∙ c .if1 .left))
 
-mul-put : tie.Need-mul-put
+in-copy : (c : tie.Else1) → c .before .before .before .before .args .t1 .moved < 256
 unfolding ofSender
-mul-put c = omega (arith, below (c .before .before), fits (c .before .before) .short)
-
-element-copy-out-put : tie.Need-element-copy-out-put
-unfolding ofSender
-element-copy-out-put c = omega (arith, below (c .before .before), fits (c .before .before) .short)
+in-copy c = omega (arith, more c, fits c .short)
 
 add-next : tie.Need-add-next
-unfolding ofSender
-add-next c = omega (arith, below (c .before .before .before .before .before .before), fits (c .before .before .before .before .before .before) .short)
+add-next c = omega (arith, in-copy (c .before .before .before .before .before .before))
 
 returns-2 : tie.Need-returns-2
 unfolding Send.moveBy Send.moveNumber ofSender
 returns-2 c =
-    let e = c .before .before .before .before .before .before in
-    simp (← e .before .go-on-number .ensures, e .if1 .left, c .before .before .put .ensures, c .before .before .before .before .past .ensures .0, going-place _ _ (fits e))
+    let after-put = c .before .before in
+    let after-past = after-put .before .before in
+    let e = after-past .before .before in
+    let p = after-past .past .ensures .0 in
+    simp (← e .before .go-on-number .ensures, e .if1 .left, after-put .put .ensures, p, going-place _ _ (fits e))
 
 pub store-spec : {M : Type 1} → statement M
 store-spec =
@@ -49,8 +47,8 @@ store-spec =
     (λ c κs. search needs)
     returns
     (λ c κs. search needs)
-    mul-put
-    element-copy-out-put
+    (λ c. omega (arith, in-copy (c .before .before)))
+    (λ c. omega (arith, in-copy (c .before .before)))
     (λ c κs. search needs)
     add-next
     (λ c. search needs)
