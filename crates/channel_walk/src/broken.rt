@@ -1,74 +1,69 @@
 // What somebody else can break: the descriptor, a message cut short, and whole messages that are malformed.
-use crate::calls::Ctb;
 use crate::calls::open;
 use crate::calls::receive;
 use crate::calls::receive_due;
 use crate::calls::receive_look;
 use crate::calls::receive_publish;
 use crate::calls::send;
-use crate::calls::send_dwords;
 use crate::calls::send_look;
-use crate::dwords::fast_request;
-use crate::dwords::put;
-use crate::dwords::whole;
-use crate::wording::dword;
-use crate::wording::named;
-use crate::wording::number;
-use crate::wording::text;
-use channel::Sender;
-use message::dword_at;
-
-// Somebody else writes a word of the descriptor.
-fn with_word(c: Ctb, name: &[u8], word: usize, value: u32) -> Ctb {
-    let mut desc = c.desc;
-    number(name, dword_at(&desc, word) as usize);
-    put(&mut desc, word, value);
-    number(b" to ", dword_at(&desc, word) as usize);
-    text(b"\n");
-    let mut next = c;
-    next.desc = desc;
-    next
-}
+use crate::calls::send_noted;
+use say::four;
+use say::one;
+use say::text;
+use say::two;
+use stage::Ctb;
+use stage::with_dword;
+use stage::with_word;
 
 // Somebody else writes HEAD.
 fn with_head(c: Ctb, value: u32) -> Ctb {
-    with_word(c, b"Somebody changes HEAD from ", 0, value)
+    let desc = c.desc;
+    two(
+        b"Somebody changes HEAD from % to %\n",
+        desc[0] as u64,
+        value as u64,
+    );
+    with_word(c, 0, value)
 }
 
 // Somebody else writes TAIL.
 fn with_tail(c: Ctb, value: u32) -> Ctb {
-    with_word(c, b"Somebody changes TAIL from ", 1, value)
+    let desc = c.desc;
+    two(
+        b"Somebody changes TAIL from % to %\n",
+        desc[1] as u64,
+        value as u64,
+    );
+    with_word(c, 1, value)
 }
 
-// Somebody else writes a dword of the ring.
-fn with_dword(c: Ctb, place: usize, value: u32, note: &[u8]) -> Ctb {
-    let mut buf = c.buf;
-    put(&mut buf, place, value);
-    dword(b"Somebody stores ", dword_at(&buf, place));
-    number(b" at place ", place);
-    text(note);
-    let mut next = c;
-    next.buf = buf;
-    next
+// Somebody else writes STATUS.
+fn with_status(c: Ctb, value: u32) -> Ctb {
+    let desc = c.desc;
+    two(
+        b"Somebody changes STATUS from % to %\n",
+        desc[2] as u64,
+        value as u64,
+    );
+    with_word(c, 2, value)
 }
 
 // Somebody else writes a header.
 fn with_header(c: Ctb, place: usize, header: u32) -> Ctb {
-    let next = with_dword(c, place, header, b", the header of");
-    named(header, message::total_length(header));
-    text(b"\n");
-    next
+    four(
+        b"Somebody stores & at place %, the header of message %, length %\n",
+        header as u64,
+        place as u64,
+        (header / 0x1_0000) as u64,
+        message::total_length(header) as u64,
+    );
+    with_dword(c, place, header)
 }
 
 // Another sender, made for an own tail.
 fn with_own_tail(c: Ctb, own: usize) -> Ctb {
-    let buf = c.buf;
-    let s = Sender::idle_at(buf.len(), own);
-    number(b"Another sender takes over, own tail ", s.own);
-    text(b"\n");
-    let mut next = c;
-    next.sender = s;
-    next
+    one(b"Another sender takes over, own tail %\n", own as u64);
+    stage::with_sender_at(c, own)
 }
 
 // Offsets and a STATUS that the next look refuses.
@@ -97,7 +92,7 @@ fn tail_moved() {
 
 // A STATUS that both sides refuse.
 fn status_8() {
-    let c = with_word(open(), b"Somebody changes STATUS from ", 2, 8);
+    let c = with_status(open(), 8);
     let c = send_look(c, 15, 1);
     receive_look(c);
 }
@@ -117,16 +112,20 @@ pub(crate) fn passed_over() {
     let c = unknown_type(open());
     let c = header_alone(c);
     let c = receive_look(c);
-    let m = fast_request(18, 1);
-    let c = send_dwords(with_own_tail(c, 4), b", a fast request", whole(&m));
-    receive_due(c, &m);
+    fast_request_through(with_own_tail(c, 4));
 }
 
 // Three dwords with type 4, received whole.
 fn unknown_type(c: Ctb) -> Ctb {
     let c = with_header(c, 0, 0x0010_0002);
-    let c = with_dword(c, 1, 0x4000_0000, b", of type 4, which is unknown\n");
-    let c = with_dword(c, 2, 0x0000_0001, b"\n");
+    let c = with_dword(c, 1, 0x4000_0000);
+    let c = with_dword(c, 2, 0x0000_0001);
+    let buf = c.buf;
+    two(
+        b"Somebody stores & at place 1, of type 4, which is unknown, and & at place 2\n",
+        buf[1] as u64,
+        buf[2] as u64,
+    );
     receive(with_tail(c, 3), 16, 2)
 }
 
@@ -135,4 +134,11 @@ fn header_alone(c: Ctb) -> Ctb {
     let c = with_header(c, 3, 0x0011_0000);
     let c = receive_look(with_tail(c, 4));
     receive_publish(c, 17, 0)
+}
+
+// A fast request, sent and received.
+fn fast_request_through(c: Ctb) {
+    let m = stage::fast_request(18, 1);
+    let c = send_noted(c, b", a fast request", stage::whole(&m));
+    receive_due(c, &m);
 }

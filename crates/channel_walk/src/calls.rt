@@ -1,189 +1,130 @@
-// A command transport buffer with the states of both sides, and the calls, each with the line that says what came of it.
-use crate::dwords::back;
-use crate::dwords::front;
-use crate::dwords::place_of;
-use crate::dwords::request;
-use crate::dwords::same;
-use crate::dwords::untouched;
-use crate::dwords::whole;
+// The calls, each with the lines that say what came of it.
 use crate::wording::descriptor;
-use crate::wording::dword;
-use crate::wording::named;
-use crate::wording::number;
-use crate::wording::state;
-use crate::wording::text;
-use crate::wording::told;
+use crate::wording::receiver;
+use crate::wording::sender;
 use crate::wording::verdict;
-use channel::Received;
-use channel::Receiver;
-use channel::Sender;
-use channel::Sent;
-use channel::Stepped;
 use message::dword_at;
+use say::text;
+use say::two;
+use stage::Ctb;
+use stage::Done;
+use stage::back;
+use stage::front;
+use stage::request;
+use stage::same;
+use stage::untouched;
+use stage::whole;
 
-// A command transport buffer (CTB): descriptor, ring, and the states of both sides.
-pub(crate) struct Ctb {
-    pub desc: [u32; 16],
-    pub buf: [u32; 1024],
-    pub sender: Sender,
-    pub receiver: Receiver,
-}
-
-// A channel opened over a descriptor that still has other words.
+// What opening answered, and the channel.
 pub(crate) fn open() -> Ctb {
-    let mut desc = [9u32; 16];
-    let buf = [0u32; 1024];
-    let opened = channel::open_channel(&mut desc, &buf);
+    let done = stage::open(stage::unopened());
     text(b"Open");
-    verdict(opened.code);
-    descriptor(&desc, buf.len());
-    let s = opened.sender;
-    let r = opened.receiver;
-    Ctb {
-        desc: desc,
-        buf: buf,
-        sender: s,
-        receiver: r,
-    }
+    verdict(done.code);
+    text(b"\n    ");
+    descriptor(done.ctb);
+    done.ctb
 }
 
-// What a call of the sender answered, to the end of its line, and the channel as the call left it.
-pub(crate) fn after_send(c: Ctb, sent: Sent, desc: [u32; 16], buf: [u32; 1024]) -> Ctb {
-    verdict(sent.code);
-    let s = sent.next;
-    state(
-        b"; sender idle, own tail ",
-        b"; sender has stored ",
-        s.own,
-        s.len,
-        s.moved,
-    );
-    descriptor(&desc, buf.len());
-    let r = c.receiver;
-    Ctb {
-        desc: desc,
-        buf: buf,
-        sender: s,
-        receiver: r,
-    }
+// What a call of the sender answered, and the channel as the call left it.
+pub(crate) fn after_send(done: Done) -> Ctb {
+    let c = done.ctb;
+    verdict(done.code);
+    sender(c.sender);
+    descriptor(c);
+    c
 }
 
-// The receiver's state to the end of the line, and the channel as the call left it.
-pub(crate) fn after_receive(c: Ctb, r: Receiver, desc: [u32; 16]) -> Ctb {
-    state(
-        b"; receiver idle, own head ",
-        b"; receiver has copied ",
-        r.own,
-        r.len,
-        r.moved,
-    );
-    let buf = c.buf;
-    descriptor(&desc, buf.len());
-    let s = c.sender;
-    Ctb {
-        desc: desc,
-        buf: buf,
-        sender: s,
-        receiver: r,
-    }
+// What a call of the receiver answered, and the channel as the call left it.
+pub(crate) fn after_receive(done: Done) -> Ctb {
+    let c = done.ctb;
+    verdict(done.code);
+    receiver(c.receiver);
+    descriptor(c);
+    c
 }
 
-// What a receive's look or copy answered, to the end of its line, and the channel as the call left it.
-pub(crate) fn after_step(c: Ctb, stepped: Stepped, desc: [u32; 16]) -> Ctb {
-    verdict(stepped.code);
-    let r = stepped.next;
-    after_receive(c, r, desc)
+// A message by its fence, with its length, in a template for both.
+fn named(template: &[u8], header: u32, len: usize) {
+    two(template, (header / 0x1_0000) as u64, len as u64);
 }
 
-// The L dwords laid at the output's front, held against the message that was due, and the others against what they were.
-fn laid(len: usize, out: &[u32; 256], due: &[u32; 256]) {
-    let before = untouched();
-    if len == 0 {
-        told(
-            same(out, &before),
-            b", output unchanged",
-            b", OUTPUT CHANGED",
-        );
-        return;
-    }
-    let message = front(out, len);
-    text(b",");
-    named(out[0], len);
-    told(
-        same(message, whole(due)),
-        b", as sent dword for dword",
-        b", NOT AS SENT",
-    );
-    told(
-        same(back(out, len), back(&before, len)),
-        b"",
-        b", REST OF THE OUTPUT CHANGED",
-    );
-}
-
-// What a receive or its publish answered, to the end of its line, and the channel as the call left it.
-fn after_output(c: Ctb, got: Received, desc: [u32; 16], out: [u32; 256], due: &[u32; 256]) -> Ctb {
-    verdict(got.code);
-    laid(got.len, &out, due);
-    let r = got.next;
-    after_receive(c, r, desc)
+// The name of a whole send.
+fn sends(header: u32, len: usize) {
+    named(b"Send message %, length %", header, len);
 }
 
 // A whole send of any dwords, with a note on them.
-pub(crate) fn send_dwords(c: Ctb, note: &[u8], msg: &[u32]) -> Ctb {
-    let s = c.sender;
-    let mut desc = c.desc;
-    let mut buf = c.buf;
-    let sent = s.send(&mut desc, &mut buf, msg);
-    text(b"Send");
-    named(dword_at(msg, 0), msg.len());
+pub(crate) fn send_noted(c: Ctb, note: &[u8], msg: &[u32]) -> Ctb {
+    sends(dword_at(msg, 0), msg.len());
     text(note);
-    after_send(c, sent, desc, buf)
+    after_send(stage::send(c, msg))
 }
 
 // A whole send of a request.
 pub(crate) fn send(c: Ctb, fence: u32, num_dwords: u32) -> Ctb {
-    let dwords = request(fence, num_dwords);
-    send_dwords(c, b"", whole(&dwords))
+    let m = request(fence, num_dwords);
+    let header = m[0];
+    let msg = whole(&m);
+    sends(header, msg.len());
+    after_send(stage::send(c, msg))
 }
 
 // A send's look, with a request.
 pub(crate) fn send_look(c: Ctb, fence: u32, num_dwords: u32) -> Ctb {
-    let dwords = request(fence, num_dwords);
-    let msg = whole(&dwords);
-    let s = c.sender;
-    let mut desc = c.desc;
-    let buf = c.buf;
-    let sent = s.look(&mut desc, &buf, msg);
-    text(b"Sender looks with");
-    named(dword_at(msg, 0), msg.len());
-    after_send(c, sent, desc, buf)
+    let m = request(fence, num_dwords);
+    let header = m[0];
+    let msg = whole(&m);
+    named(b"Sender looks with message %, length %", header, msg.len());
+    after_send(stage::send_look(c, msg))
 }
 
 // A send's store, with the place where its dword then stands.
 pub(crate) fn send_store(c: Ctb) -> Ctb {
+    let done = stage::send_store(c);
     let s = c.sender;
-    let copy = s.copy;
-    let stored = dword_at(&copy, s.moved);
-    let desc = c.desc;
-    let mut buf = c.buf;
-    let sent = s.store(&desc, &mut buf);
-    text(b"Sender stores");
-    if sent.code == 0 {
-        dword(b" ", stored);
-        number(b" at place ", place_of(&buf, stored));
+    stores(done, dword_at(&s.copy, s.moved));
+    after_send(done)
+}
+
+// The name of a store of this dword.
+fn stores(done: Done, dword: u32) {
+    if done.code == 0 {
+        let c = done.ctb;
+        let place = stage::place_of(&c.buf, dword);
+        two(b"Sender stores & at place %", dword as u64, place as u64);
+    } else {
+        text(b"Sender stores");
     }
-    after_send(c, sent, desc, buf)
 }
 
 // A send's publish.
 pub(crate) fn send_publish(c: Ctb) -> Ctb {
-    let s = c.sender;
-    let mut desc = c.desc;
-    let buf = c.buf;
-    let sent = s.publish(&mut desc, &buf);
     text(b"Sender publishes");
-    after_send(c, sent, desc, buf)
+    after_send(stage::send_publish(c))
+}
+
+// Whether an output has the first len dwords of the message that was due and is otherwise untouched, and len is 0 or that message's length.
+fn as_due(len: usize, out: &[u32; 256], due: &[u32; 256]) -> bool {
+    let before = untouched();
+    let length_due = message::total_length(due[0]);
+    let message_due = same(front(out, len), front(due, len));
+    let rest_untouched = same(back(out, len), back(&before, len));
+    ((len == 0) | (len == length_due)) & message_due & rest_untouched
+}
+
+// What a receive laid in its output.
+fn laid(so: bool, len: usize, header: u32) {
+    if !so {
+        text(b", OUTPUT WRONG");
+    } else if len == 0 {
+        text(b", output unchanged");
+    } else {
+        named(
+            b" message %, length %, as sent dword for dword",
+            header,
+            len,
+        );
+    }
 }
 
 // A whole receive, where a request is due.
@@ -194,41 +135,30 @@ pub(crate) fn receive(c: Ctb, fence: u32, num_dwords: u32) -> Ctb {
 // A whole receive, where this message is due.
 pub(crate) fn receive_due(c: Ctb, due: &[u32; 256]) -> Ctb {
     let mut out = untouched();
-    let r = c.receiver;
-    let mut desc = c.desc;
-    let buf = c.buf;
-    let got = r.receive(&mut desc, &buf, &mut out);
+    let done = stage::receive(c, &mut out);
     text(b"Receive");
-    after_output(c, got, desc, out, due)
+    laid(as_due(done.len, &out, due), done.len, out[0]);
+    after_receive(done)
 }
 
 // A receive's look.
 pub(crate) fn receive_look(c: Ctb) -> Ctb {
-    let r = c.receiver;
-    let mut desc = c.desc;
-    let buf = c.buf;
-    let stepped = r.look(&mut desc, &buf);
     text(b"Receiver looks");
-    after_step(c, stepped, desc)
+    after_receive(stage::receive_look(c))
 }
 
 // A receive's copy.
 pub(crate) fn receive_copy(c: Ctb) -> Ctb {
-    let r = c.receiver;
-    let desc = c.desc;
-    let buf = c.buf;
-    let stepped = r.copy(&desc, &buf);
     text(b"Receiver copies");
-    after_step(c, stepped, desc)
+    after_receive(stage::receive_copy(c))
 }
 
 // A receive's publish, where a request is due.
 pub(crate) fn receive_publish(c: Ctb, fence: u32, num_dwords: u32) -> Ctb {
+    let due = request(fence, num_dwords);
     let mut out = untouched();
-    let r = c.receiver;
-    let mut desc = c.desc;
-    let buf = c.buf;
-    let got = r.publish(&mut desc, &buf, &mut out);
+    let done = stage::receive_publish(c, &mut out);
     text(b"Receiver publishes");
-    after_output(c, got, desc, out, &request(fence, num_dwords))
+    laid(as_due(done.len, &out, &due), done.len, out[0]);
+    after_receive(done)
 }

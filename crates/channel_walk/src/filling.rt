@@ -1,12 +1,12 @@
 // A fresh ring filled until nothing is free, and a message that goes around the ring's end.
-use crate::calls::Ctb;
 use crate::calls::open;
 use crate::calls::receive;
 use crate::calls::send;
 use crate::calls::send_look;
 use crate::calls::send_publish;
 use crate::calls::send_store;
-use crate::wording::text;
+use say::text;
+use stage::Ctb;
 
 // Three messages of 256 dwords, one that is too long then, one that just fits; all four that went in come out.
 pub(crate) fn fresh_and_full() {

@@ -1,13 +1,10 @@
-// Walks a channel of 1,024 dwords through what it accepts and what it refuses, a printed line for each thing that happens.
+// Walks a channel of 1,024 dwords through what it accepts and what it refuses, a few printed lines for each thing that happens.
 mod broken;
 mod calls;
-mod dwords;
 mod filling;
 mod steps;
 mod turned_away;
 mod wording;
-
-use wording::text;
 
 // The scenes, each on channels of its own.
 fn main() {
@@ -23,17 +20,14 @@ fn main() {
 
 // What a reader of the lines has to know.
 fn foreword() {
-    text(
-        b"A sender stores messages in a ring of 1024 places, one dword in each; a receiver takes them out in order.\n",
-    );
-    text(b"A message has a number, its fence, and a length of 2 to 256 dwords.\n");
-    text(
-        b"HEAD is the next place to read, TAIL the next to write; after place 1023 comes place 0.\n",
-    );
-    text(
-        b"One place stays free, so that a full ring never looks empty. STATUS 0 is good, any other is broken.\n",
-    );
-    text(
-        b"A refused call leaves all as it was, but 7, 8 and 9 set STATUS, and 13 moves HEAD past the message.\n",
+    say::text(
+        b"A sender stores messages in a ring of 1024 places, one dword in each; a\n\
+          receiver takes them out in order.\n\
+          A message has a number, its fence, and a length of 2 to 256 dwords.\n\
+          HEAD is the next place to read, TAIL the next to write; after place 1023\n\
+          comes place 0. One place stays free, so that a full ring never looks empty.\n\
+          STATUS 0 is good, any other is broken.\n\
+          A refused call leaves all as it was, but 7, 8 and 9 set STATUS, and 13 moves\n\
+          HEAD past the message.\n",
     );
 }

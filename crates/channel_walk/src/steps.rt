@@ -1,5 +1,4 @@
 // The two sides step by step, one between the other's steps, with steps that come too early or too late.
-use crate::calls::Ctb;
 use crate::calls::open;
 use crate::calls::receive;
 use crate::calls::receive_copy;
@@ -12,7 +11,8 @@ use crate::turned_away::copy_over_1000;
 use crate::turned_away::publish_to_255;
 use crate::turned_away::send_malformed;
 use crate::turned_away::store_over_15;
-use crate::wording::text;
+use say::text;
+use stage::Ctb;
 
 // A send with the receiver looking on, then a receive while the next send runs.
 pub(crate) fn interleaved() {

@@ -1,128 +1,144 @@
 // Code partition directories: their own numbers, and where the part of a name lies.
-use crate::laying::Blob;
-use crate::laying::front;
-use crate::laying::put;
-use crate::laying::put_directory;
-use crate::laying::put_entry;
-use crate::wording::number;
-use crate::wording::part;
-use crate::wording::text;
+use crate::wording::nowhere;
 use crate::wording::verdict;
-
-// Seeks a name in the first len bytes: what is answered, and where its part lies.
-pub(crate) fn seek(blob: &Blob, len: usize, name: &[u8]) {
-    number(b"", len);
-    text(b" bytes, seek \"");
-    text(name);
-    text(b"\"");
-    sought(front(blob, len), name);
-}
-
-// What seeking a name answers, and where its part lies; ends the line.
-pub(crate) fn sought(blob: &[u8], name: &[u8]) {
-    let l = firmware::cpd_located(blob, name);
-    verdict(l.code);
-    part(b"; part ", l);
-    text(b"\n");
-}
+use firmware::Located;
+use say::four;
+use say::one;
+use say::text;
+use say::two;
+use stage::Blob;
+use stage::blank;
+use stage::cut;
+use stage::put_byte;
+use stage::put_directory;
+use stage::put_entry;
 
 // Two entries after a header of 20 bytes, so that they end at byte 68, and room behind them.
 // The second entry's part is given.
 pub(crate) fn two_entries(second: &[u8], offset: u32, len: u32) -> Blob {
-    let mut blob = [0u8; 4700];
+    let mut blob = blank();
     put_directory(&mut blob, 2, 20);
     put_entry(&mut blob, 20, b"twelve_bytes", 70, 5);
     put_entry(&mut blob, 44, second, offset, len);
     blob
 }
 
-// Whether a blob is a directory, how many entries it has, and the names of the first two and of one too many.
-fn listed(blob: &[u8]) {
-    number(b"", blob.len());
-    text(b" bytes");
-    let d = firmware::cpd_directory(blob);
-    verdict(d.code);
-    number(b"; entries ", d.count);
-    listed_name(b"; entry 0 \"", blob, 0);
-    listed_name(b", entry 1 \"", blob, 1);
-    listed_name(b", entry 2 \"", blob, 2);
-    text(b"\n");
+// The same, with a part of the name huc_fw.
+pub(crate) fn with_huc(offset: u32, len: u32) -> Blob {
+    two_entries(b"huc_fw", offset, len)
 }
 
-// Twelve bytes of a name, or none.
-fn listed_name(before: &[u8], blob: &[u8], i: usize) {
-    text(before);
-    text(firmware::cpd_name(blob, i));
-    text(b"\"");
+// How many entries a directory has, the names of the first two and of one too many, and what it is answered.
+fn listed(blob: &[u8]) {
+    let d = firmware::cpd_directory(blob);
+    two(
+        b"% bytes, entries %, names",
+        blob.len() as u64,
+        d.count as u64,
+    );
+    listed_name(blob, 0);
+    listed_name(blob, 1);
+    listed_name(blob, 2);
+    verdict(d.code);
+}
+
+// A name of twelve bytes, or none.
+fn listed_name(blob: &[u8], i: usize) {
+    text(b" ");
+    say::quoted(firmware::cpd_name(blob, i));
+}
+
+// The first len bytes of a directory.
+fn listed_to(blob: &Blob, len: usize) {
+    listed(cut(blob, len));
 }
 
 // A directory's own numbers: 15, 18 and 19.
 pub(crate) fn entries() {
     text(b"\nA directory of two entries after a header of 20 bytes: the entries end at 68\n");
-    let mut blob = two_entries(b"name_of_this", 68, 0);
-    listed(front(&blob, 19));
-    listed(front(&blob, 20));
-    listed(front(&blob, 67));
-    listed(front(&blob, 68));
-    put(&mut blob, 10, 19);
-    text(b"With header length 19: ");
-    listed(front(&blob, 68));
-    put(&mut blob, 10, 21);
-    text(b"With header length 21: ");
-    listed(front(&blob, 68));
-    other_counts();
-    wrong_marker();
+    let blob = two_entries(b"name_of_this", 68, 0);
+    listed_to(&blob, 19);
+    listed_to(&blob, 20);
+    listed_to(&blob, 67);
+    listed_to(&blob, 68);
+    with_header_length(blob, 19);
+    with_header_length(blob, 21);
+    with_count(0, 20);
+    with_count(0xffff_ffff, 100);
+    with_other_marker(blob);
 }
 
-// A directory of no entries, and one of as many as a dword can say.
-fn other_counts() {
-    let mut blob = [0u8; 4700];
-    put_directory(&mut blob, 0, 20);
-    text(b"With no entry: ");
-    listed(front(&blob, 20));
-    put_directory(&mut blob, 0xffff_ffff, 20);
-    text(b"With entry count 4294967295: ");
-    listed(front(&blob, 100));
+// The same with another header length.
+fn with_header_length(blob: Blob, len: u8) {
+    let mut other = blob;
+    put_byte(&mut other, 10, len);
+    one(b"Header length %: ", len as u64);
+    listed_to(&other, 68);
+}
+
+// A directory with that entry count and no entries laid.
+fn with_count(count: u32, len: usize) {
+    let mut blob = blank();
+    put_directory(&mut blob, count, 20);
+    one(b"Entry count %: ", count as u64);
+    listed_to(&blob, len);
 }
 
 // A marker whose last byte is in lower case.
-fn wrong_marker() {
-    let mut blob = two_entries(b"name_of_this", 68, 0);
-    put(&mut blob, 3, b'd');
-    text(b"With marker $CPd: ");
-    listed(front(&blob, 68));
+fn with_other_marker(blob: Blob) {
+    let mut other = blob;
+    put_byte(&mut other, 3, b'd');
+    text(b"Marker $CPd: ");
+    listed_to(&other, 68);
+}
+
+// Where a part lies, or that there is none, and what was answered.
+pub(crate) fn found(l: Located) {
+    if nowhere(l) {
+        text(b", no part");
+    } else {
+        text(b", part ");
+        say::part(l);
+    }
+    verdict(l.code);
+}
+
+// Seeks huc_fw.
+pub(crate) fn found_huc(blob: &Blob, len: usize) {
+    found(firmware::cpd_located(cut(blob, len), b"huc_fw"));
 }
 
 // Parts that end where the blob ends, or a byte later.
 pub(crate) fn parts() {
-    text(b"\nParts of that directory\n");
-    let none = two_entries(b"huc_fw", 68, 0);
-    let one = two_entries(b"huc_fw", 68, 1);
-    let far = two_entries(b"huc_fw", 69, 0);
-    seek(&none, 67, b"huc_fw");
-    text(b"Offset 68, length 0: ");
-    seek(&none, 68, b"huc_fw");
-    text(b"Offset 69, length 0: ");
-    seek(&far, 68, b"huc_fw");
-    text(b"Offset 68, length 1: ");
-    seek(&one, 68, b"huc_fw");
-    text(b"Offset 68, length 1: ");
-    seek(&one, 69, b"huc_fw");
-    high_bits();
+    text(b"\nThe part of that directory's second entry\n");
+    part_at(68, 0, 67);
+    part_at(68, 0, 68);
+    part_at(69, 0, 68);
+    part_at(68, 1, 68);
+    part_at(68, 1, 69);
+    part_at(68, 0xffff_ffff, 100);
+    text(b"Bits 31:25 of an offset do not count, bit 24 does; 0x44 is 68\n");
+    part_with_bits(0x0200_0044);
+    part_with_bits(0xfe00_0044);
+    part_with_bits(0x0100_0044);
 }
 
-// Bits 31:25 of an offset do not count; bit 24 does, and a length counts whole.
-fn high_bits() {
-    let bit_25 = two_entries(b"huc_fw", 0x0200_0044, 8);
-    let all = two_entries(b"huc_fw", 0xfe00_0044, 8);
-    let bit_24 = two_entries(b"huc_fw", 0x0100_0044, 8);
-    let long = two_entries(b"huc_fw", 68, 0xffff_ffff);
-    text(b"Offset 68 with bit 25 set, length 8: ");
-    seek(&bit_25, 100, b"huc_fw");
-    text(b"Offset 68 with bits 31:25 set, length 8: ");
-    seek(&all, 100, b"huc_fw");
-    text(b"Offset 68 with bit 24 set, length 8: ");
-    seek(&bit_24, 100, b"huc_fw");
-    text(b"Offset 68, length 4294967295: ");
-    seek(&long, 100, b"huc_fw");
+// A part with that offset and length, in a blob of so many bytes.
+fn part_at(offset: u32, len: u32, bytes: usize) {
+    let blob = with_huc(offset, len);
+    four(
+        b"Offset %, length %, in % bytes",
+        offset as u64,
+        len as u64,
+        bytes as u64,
+        0,
+    );
+    found_huc(&blob, bytes);
+}
+
+// A part of 8 bytes with that offset as it is stored.
+fn part_with_bits(offset: u32) {
+    let blob = with_huc(offset, 8);
+    one(b"Offset &, length 8, in 100 bytes", offset as u64);
+    found_huc(&blob, 100);
 }

@@ -1,26 +1,28 @@
 // Parts inside a directory: manifests, and images judged as blobs of their own.
-use crate::laying::Blob;
-use crate::laying::Sizes;
-use crate::laying::front;
-use crate::laying::put_directory;
-use crate::laying::put_dword;
-use crate::laying::put_entry;
-use crate::laying::put_image;
-use crate::wording::image_verdict;
-use crate::wording::manifest;
-use crate::wording::number;
-use crate::wording::part;
-use crate::wording::text;
-use crate::wording::version;
+use crate::wording::Parts;
+use crate::wording::end;
+use crate::wording::image;
+use crate::wording::parts_or_none;
+use crate::wording::verdict;
 use firmware::Component;
+use firmware::ManifestVersion;
+use firmware::Sizes;
+use firmware::huc_located;
+use say::one;
+use say::text;
+use say::two;
+use stage::Blob;
+use stage::cut;
+use stage::put_dword;
+use stage::put_entry;
 
 // A directory with a manifest of version 9.4.2.0 at byte 68 and an image at byte 112: uCode of 5 dwords, and 1 dword each for
 // RSA, modulus and exponent. The image ends at byte 272; what its entry says of its length is given, and so is h.
-fn directory(manifest_len: u32, image_len: u32, h: u32) -> Blob {
-    let mut blob = [0u8; 4700];
-    put_directory(&mut blob, 2, 20);
-    put_entry(&mut blob, 20, b"HUCP.man", 68, manifest_len);
-    put_entry(&mut blob, 44, b"huc_fw", 112, image_len);
+fn directory(manifest_len: u32, image_len: u32, h: usize) -> Blob {
+    let mut blob = stage::blank();
+    stage::put_directory(&mut blob, 2, 20);
+    put_manifest(&mut blob, 20, 68, manifest_len);
+    put_huc(&mut blob, 44, image_len);
     put_dword(&mut blob, 104, 0x0004_0009);
     put_dword(&mut blob, 108, 0x0000_0002);
     let z = Sizes {
@@ -30,90 +32,126 @@ fn directory(manifest_len: u32, image_len: u32, h: u32) -> Blob {
         m: 1,
         e: 1,
     };
-    put_image(&mut blob, 112, z);
+    stage::put_image(&mut blob, 112, z);
     blob
 }
 
-// A manifest's version, with a note on the blob.
-fn manifest_of(note: &[u8], blob: &[u8]) {
-    text(note);
-    manifest(firmware::manifest_version(blob));
+// An entry of the manifest's name.
+fn put_manifest(s: &mut [u8], at: usize, offset: u32, len: u32) {
+    put_entry(s, at, b"HUCP.man", offset, len);
+}
+
+// An entry of the image's name.
+fn put_huc(s: &mut [u8], at: usize, len: u32) {
+    put_entry(s, at, b"huc_fw", 112, len);
 }
 
 // Manifests on both sides of 44 bytes, and blobs without one.
 pub(crate) fn manifests() {
-    text(b"\nManifests: HUCP.man at 68\n");
-    let blob = directory(43, 160, 35);
-    manifest_of(b"43 bytes, in a blob that goes on", front(&blob, 300));
-    let blob = directory(44, 160, 35);
-    manifest_of(b"44 bytes", front(&blob, 300));
-    manifest_of(
-        b"44 bytes, in a blob that ends where it ends",
-        front(&blob, 112),
-    );
-    manifest_of(b"44 bytes, in a blob a byte shorter", front(&blob, 111));
-    manifest_of(b"A blob of 67 bytes", front(&blob, 67));
+    text(b"\nManifests: HUCP.man at 68, which with length 44 ends at 112\n");
+    manifest_of(43, 300);
+    manifest_of(44, 300);
+    manifest_of(44, 112);
+    manifest_of(44, 111);
+    manifest_of(44, 67);
+    other_manifests();
+}
+
+// A manifest of that length, in a blob of so many bytes.
+fn manifest_of(len: u32, bytes: usize) {
+    let blob = directory(len, 160, 35);
+    two(b"Length %, in % bytes", len as u64, bytes as u64);
+    manifest(&blob, bytes);
+}
+
+// What a manifest is answered, or its version.
+fn manifest(blob: &Blob, bytes: usize) {
+    let v = firmware::manifest_version(cut(blob, bytes));
+    match v {
+        ManifestVersion::Refused(code) => verdict(code),
+        _ => {
+            text(b": accepted; firmware version ");
+            say::manifest_version(v);
+            end();
+        }
+    }
+}
+
+// Another name in its place, and its name twice.
+fn other_manifests() {
     let mut other = directory(44, 160, 35);
     put_entry(&mut other, 20, b"HUCP.met", 68, 44);
-    manifest_of(b"HUCP.met instead", front(&other, 300));
-    put_entry(&mut other, 20, b"HUCP.man", 68, 44);
-    put_entry(&mut other, 44, b"HUCP.man", 112, 160);
-    manifest_of(b"HUCP.man twice", front(&other, 300));
+    text(b"HUCP.met instead");
+    manifest(&other, 300);
+    put_manifest(&mut other, 20, 68, 44);
+    put_manifest(&mut other, 44, 112, 160);
+    text(b"HUCP.man twice");
+    manifest(&other, 300);
 }
 
-// A component's name and place in the outer blob.
-fn component(name: &[u8], blob: &[u8], which: Component) {
-    part(name, firmware::huc_located(blob, which));
+// Where the parts of the image in a directory lie, in the directory's blob.
+fn located(blob: &[u8]) -> Parts {
+    Parts {
+        ucode: huc_located(blob, Component::Ucode),
+        rsa: huc_located(blob, Component::Rsa),
+        modulus: huc_located(blob, Component::Modulus),
+        exponent: huc_located(blob, Component::Exponent),
+    }
 }
 
-// The image in a directory: what it is answered, its version, and where its components lie in the directory's blob.
-fn image_in(note: &[u8], blob: &[u8]) {
-    text(note);
-    image_verdict(firmware::huc_answer(blob));
-    version(firmware::huc_version(blob));
-    component(b"  uCode ", blob, Component::Ucode);
-    component(b"; RSA ", blob, Component::Rsa);
-    component(b"; modulus ", blob, Component::Modulus);
-    component(b"; exponent ", blob, Component::Exponent);
-    text(b"\n");
+// The image in a directory: what it is answered, its version, and where its parts lie.
+fn judged(blob: &[u8]) {
+    image(firmware::huc_answer(blob), firmware::huc_version(blob));
+    parts_or_none(located(blob));
 }
 
-// An image in a part of that length.
-fn image_of_length(len: u32) {
-    let blob = directory(44, len, 35);
-    number(b"Length ", len as usize);
-    image_in(b"", front(&blob, 300));
+// The same for the first bytes of a blob.
+fn judged_to(blob: &Blob, bytes: usize) {
+    judged(cut(blob, bytes));
+}
+
+// An image in a part of that length, with that h.
+fn image_of(len: u32, h: usize) {
+    let blob = directory(44, len, h);
+    two(b"Length %, h %", len as u64, h as u64);
+    judged_to(&blob, 300);
 }
 
 // Images that are accepted.
 pub(crate) fn whole_images() {
-    text(
-        b"\nImages in a directory: huc_fw at 112, with h 35, s 40, k 1, m 1, e 1; the blob has 300 bytes\n",
-    );
-    image_of_length(160);
-    image_of_length(161);
-    image_of_length(159);
-    image_of_length(152);
+    text(b"\nImages in a directory of 300 bytes: huc_fw at 112, with s 40, k 1, m 1, e 1\n");
+    image_of(160, 35);
+    image_of(161, 35);
+    image_of(188, 35);
+    image_of(159, 35);
+    image_of(152, 35);
     let mut blob = directory(44, 160, 35);
     put_dword(&mut blob, 56, 0x0200_0070);
-    image_in(b"Length 160, offset 112 with bit 25 set", front(&blob, 300));
+    text(b"Length 160, h 35, offset 112 with bit 25 set");
+    judged_to(&blob, 300);
 }
 
 // Images that the image's rules or the directory's refuse.
 pub(crate) fn refused_images() {
-    text(b"\nImages in a directory that are refused\n");
-    image_of_length(151);
-    image_of_length(127);
-    image_of_length(0);
-    let broken = directory(44, 160, 36);
-    image_in(b"Length 160, h 36", front(&broken, 300));
-    let beyond = directory(44, 189, 35);
-    image_in(b"Length 189, a byte past the blob", front(&beyond, 300));
-    let mut missing = directory(44, 160, 35);
-    put_entry(&mut missing, 44, b"huc_fwx", 112, 160);
-    image_in(b"huc_fwx instead", front(&missing, 300));
-    image_in(b"A blob of 67 bytes", front(&missing, 67));
-    let mut twice = directory(44, 160, 35);
-    put_entry(&mut twice, 20, b"huc_fw", 112, 160);
-    image_in(b"huc_fw twice", front(&twice, 300));
+    text(b"\nImages in that directory that are refused; 188 bytes are left from 112 on\n");
+    image_of(151, 35);
+    image_of(127, 35);
+    image_of(0, 35);
+    image_of(160, 36);
+    image_of(189, 35);
+    other_images();
+}
+
+// Another name in its place, entries cut off, and its name twice.
+fn other_images() {
+    let mut other = directory(44, 160, 35);
+    one(b"In % bytes", 67);
+    judged_to(&other, 67);
+    put_huc(&mut other, 20, 160);
+    text(b"huc_fw twice");
+    judged_to(&other, 300);
+    put_manifest(&mut other, 20, 68, 44);
+    put_entry(&mut other, 44, b"huc_fwx", 112, 160);
+    text(b"huc_fwx instead");
+    judged_to(&other, 300);
 }

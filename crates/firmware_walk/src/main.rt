@@ -2,11 +2,8 @@
 mod directories;
 mod images;
 mod inside;
-mod laying;
 mod names;
 mod wording;
-
-use wording::text;
 
 // The scenes, each on blobs of its own.
 fn main() {
@@ -17,6 +14,7 @@ fn main() {
     directories::entries();
     directories::parts();
     names::found_or_not();
+    names::alike_or_twice();
     names::refused();
     inside::manifests();
     inside::whole_images();
@@ -25,14 +23,12 @@ fn main() {
 
 // What a reader of the lines has to know.
 fn foreword() {
-    text(
-        b"A firmware file is a CSS image, or a code partition directory (CPD) with named parts.\n",
-    );
-    text(
-        b"An image has a header of 128 bytes, then uCode, RSA, modulus and exponent. Its header gives sizes in dwords, of 4 bytes:\n",
-    );
-    text(b"h all that is not uCode, s all, k RSA, m modulus, e exponent.\n");
-    text(
-        b"A part runs from its start up to its end, which is excluded. What is not shown is the empty part at byte 0.\n",
+    say::text(
+        b"A firmware file is a CSS image, or a code partition directory (CPD) with named\n\
+          parts. An image has a header of 128 bytes, then uCode, RSA, modulus and\n\
+          exponent. Its header gives sizes in dwords, of 4 bytes: h all that is not\n\
+          uCode, s all, k RSA, m modulus, e exponent.\n\
+          A part runs from its start up to its end, which is excluded. Where there is no\n\
+          part, the empty one at byte 0 is answered.\n",
     );
 }

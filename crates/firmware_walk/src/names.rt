@@ -1,84 +1,110 @@
 // Names in a directory: whole names agree and prefixes do not, a name that two entries have is refused, and names that may not be sought.
-use crate::directories::seek;
-use crate::directories::sought;
+use crate::directories::found;
+use crate::directories::found_huc;
 use crate::directories::two_entries;
-use crate::laying::Blob;
-use crate::laying::front;
-use crate::laying::put_directory;
-use crate::laying::put_entry;
-use crate::wording::number;
-use crate::wording::text;
+use crate::directories::with_huc;
+use say::four;
+use say::one;
+use say::text;
+use stage::Blob;
+use stage::cut;
+use stage::put_directory;
+use stage::put_entry;
 
-// Names that are there, that are not, and that two entries have.
+// Seeks a name in the first len bytes.
+fn seek_in(blob: &Blob, len: usize, name: &[u8]) {
+    one(b"In % bytes, ", len as u64);
+    seek(cut(blob, len), name);
+}
+
+fn seek(blob: &[u8], name: &[u8]) {
+    text(b"seek ");
+    say::quoted(name);
+    found(firmware::cpd_located(blob, name));
+}
+
+// Names that are there, and that are not.
 pub(crate) fn found_or_not() {
-    text(b"\nNames sought: \"twelve_bytes\" at 70 to 75, then one more entry\n");
-    let blob = two_entries(b"huc_fw", 80, 4);
-    text(b"\"huc_fw\" at 80 to 84: ");
-    seek(&blob, 100, b"huc_fw");
-    seek(&blob, 100, b"twelve_bytes");
-    seek(&blob, 100, b"huc");
-    seek(&blob, 100, b"huc_fwx");
-    seek(&blob, 100, b"HUC_FW");
-    seek(&blob, 100, b"HUCP.man");
-    text(b"\nNames that begin alike, and one name twice\n");
+    text(
+        b"\nNames sought in 100 bytes: \"twelve_bytes\" at 70 to 75, then \"huc_fw\" at 80 to 84\n",
+    );
+    let blob = with_huc(80, 4);
+    let d = cut(&blob, 100);
+    seek(d, b"huc_fw");
+    seek(d, b"twelve_bytes");
+    seek(d, b"huc");
+    seek(d, b"huc_fwx");
+    seek(d, b"HUC_FW");
+    seek(d, b"HUCP.man");
+}
+
+// Names of which one is a prefix, and a name that two entries have. 100 bytes each.
+pub(crate) fn alike_or_twice() {
+    text(b"\nNames that begin alike, and one name twice, in 100 bytes: seek \"huc_fw\"\n");
     longer_first();
-    same_twice();
+    twice(70, 5);
+    twice(99, 2);
+    twice(80, 4);
+    not_counted();
+    first_and_last();
+}
+
+// An entry of the name huc_fw at byte `at`.
+fn put_huc(s: &mut [u8], at: usize, offset: u32, len: u32) {
+    put_entry(s, at, b"huc_fw", offset, len);
 }
 
 // A longer name comes first, and the name sought is its prefix.
 fn longer_first() {
-    let mut blob = two_entries(b"huc_fw", 80, 4);
+    let mut blob = with_huc(80, 4);
     put_entry(&mut blob, 20, b"huc_fwx", 70, 5);
-    text(b"\"huc_fwx\" at 70 to 75 and then \"huc_fw\" at 80 to 84: ");
-    seek(&blob, 100, b"huc_fw");
+    text(b"\"huc_fwx\" at 70 to 75 and \"huc_fw\" at 80 to 84");
+    found_huc(&blob, 100);
 }
 
-// Two entries of one name are refused, also where they are alike and before a part that lies beyond the blob. An entry behind those that
-// the directory counts is none, and another name is still found.
-fn same_twice() {
-    let mut blob = two_entries(b"huc_fw", 80, 4);
-    put_entry(&mut blob, 20, b"huc_fw", 70, 5);
-    text(b"\"huc_fw\" at 70 to 75 and again at 80 to 84: ");
-    seek(&blob, 100, b"huc_fw");
-    put_entry(&mut blob, 20, b"huc_fw", 99, 2);
-    text(b"\"huc_fw\" at 99 to 101 and again at 80 to 84: ");
-    seek(&blob, 100, b"huc_fw");
-    put_entry(&mut blob, 20, b"huc_fw", 80, 4);
-    text(b"\"huc_fw\" at 80 to 84, the same entry twice: ");
-    seek(&blob, 100, b"huc_fw");
+// Two entries of the name, the second at 80 to 84: refused also where they are alike, and before a part that lies beyond the blob.
+fn twice(offset: u32, len: u32) {
+    let mut blob = with_huc(80, 4);
+    put_huc(&mut blob, 20, offset, len);
+    let end = std::num::wrapping_add_u32(offset, len);
+    four(
+        b"\"huc_fw\" at % to % and again at 80 to 84",
+        offset as u64,
+        end as u64,
+        0,
+        0,
+    );
+    found_huc(&blob, 100);
+}
+
+// An entry behind those that the directory counts is none.
+fn not_counted() {
+    let mut blob = with_huc(80, 4);
+    put_huc(&mut blob, 20, 80, 4);
     put_directory(&mut blob, 1, 20);
-    text(b"The same with entry count 1: ");
-    seek(&blob, 100, b"huc_fw");
-    first_and_last();
+    text(b"The same with entry count 1");
+    found_huc(&blob, 100);
 }
 
-// Entry 0 and entry 2 have one name, entry 1 another.
+// Entry 0 and entry 2 have one name, entry 1 another, which is still found.
 fn first_and_last() {
     let mut blob = two_entries(b"other", 94, 3);
     put_directory(&mut blob, 3, 20);
-    put_entry(&mut blob, 20, b"huc_fw", 92, 2);
-    put_entry(&mut blob, 68, b"huc_fw", 97, 3);
-    text(b"\"huc_fw\" at 92 to 94, \"other\" at 94 to 97, \"huc_fw\" at 97 to 100: ");
-    seek(&blob, 100, b"huc_fw");
-    seek(&blob, 100, b"other");
-}
-
-// Seeks a name that is not to be printed.
-fn seek_described(note: &[u8], blob: &Blob, len: usize, name: &[u8]) {
-    number(b"", len);
-    text(b" bytes, seek ");
-    text(note);
-    sought(front(blob, len), name);
+    put_huc(&mut blob, 20, 92, 2);
+    put_huc(&mut blob, 68, 97, 3);
+    text(b"\"huc_fw\" at 92 to 94, \"other\" at 94 to 97, \"huc_fw\" at 97 to 100");
+    found_huc(&blob, 100);
+    seek(cut(&blob, 100), b"other");
 }
 
 // Names that may not be sought, whatever the blob is: 14 is the lowest number here.
 pub(crate) fn refused() {
     text(b"\nNames that may not be sought\n");
-    let blob = two_entries(b"huc_fw", 80, 4);
-    seek_described(b"a name of 0 bytes", &blob, 100, b"");
-    seek_described(b"a name of 13 bytes", &blob, 100, b"twelve_bytes1");
-    seek_described(b"\"huc_fw\" with a zero behind it", &blob, 100, b"huc_fw\0");
-    seek_described(b"a name that is one zero", &blob, 100, b"\0");
-    seek_described(b"a name of 0 bytes", &blob, 19, b"");
-    seek_described(b"\"huc_fw\"", &blob, 19, b"huc_fw");
+    let blob = with_huc(80, 4);
+    seek_in(&blob, 100, b"");
+    seek_in(&blob, 100, b"twelve_bytes1");
+    seek_in(&blob, 100, b"huc_fw\0");
+    seek_in(&blob, 100, b"\0");
+    seek_in(&blob, 19, b"");
+    seek_in(&blob, 19, b"huc_fw");
 }
