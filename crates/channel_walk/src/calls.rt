@@ -2,16 +2,14 @@
 use crate::wording::descriptor;
 use crate::wording::receiver;
 use crate::wording::sender;
-use crate::wording::verdict;
 use message::dword_at;
 use say::text;
 use say::two;
+use say::verdict;
 use stage::Ctb;
 use stage::Done;
-use stage::back;
-use stage::front;
+use stage::as_due;
 use stage::request;
-use stage::same;
 use stage::untouched;
 use stage::whole;
 
@@ -101,15 +99,6 @@ fn stores(done: Done, dword: u32) {
 pub(crate) fn send_publish(c: Ctb) -> Ctb {
     text(b"Sender publishes");
     after_send(stage::send_publish(c))
-}
-
-// Whether an output has the first len dwords of the message that was due and is otherwise untouched, and len is 0 or that message's length.
-fn as_due(len: usize, out: &[u32; 256], due: &[u32; 256]) -> bool {
-    let before = untouched();
-    let length_due = message::total_length(due[0]);
-    let message_due = same(front(out, len), front(due, len));
-    let rest_untouched = same(back(out, len), back(&before, len));
-    ((len == 0) | (len == length_due)) & message_due & rest_untouched
 }
 
 // What a receive laid in its output.

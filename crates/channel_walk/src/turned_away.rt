@@ -3,13 +3,13 @@ use crate::calls::after_receive;
 use crate::calls::after_send;
 use crate::calls::open;
 use crate::calls::send_noted;
-use crate::wording::end;
-use crate::wording::verdict;
 use channel::Receiver;
 use channel::Sender;
+use say::end;
 use say::one;
 use say::text;
 use say::two;
+use say::verdict;
 use stage::Ctb;
 use stage::Done;
 

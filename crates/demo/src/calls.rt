@@ -1,9 +1,7 @@
 // The calls, each with the line that says what came of it.
 use stage::Ctb;
 use stage::Done;
-use stage::front;
 use stage::request;
-use stage::same;
 use stage::untouched;
 use stage::whole;
 
@@ -87,30 +85,28 @@ pub(crate) fn send_publish(c: Ctb) -> Ctb {
     after(stage::send_publish(c))
 }
 
-// The message that arrived, held against the one that was due.
-fn arrived(out: &[u32; 256], len: usize, due: &[u32; 256]) {
-    say::two(
-        b" message %, % dwords, ",
-        (out[0] / 0x1_0000) as u64,
-        len as u64,
-    );
-    say::either(
-        same(front(out, len), whole(due)),
-        b"every dword as sent",
-        b"NOT AS SENT",
-    );
+// What a receive laid in its output, where a message is due.
+fn laid(as_due: bool, len: usize, header: u32) {
+    if !as_due {
+        say::text(b", NOT AS SENT");
+    } else if len != 0 {
+        say::two(
+            b" message %, % dwords, every dword as sent",
+            (header / 0x1_0000) as u64,
+            len as u64,
+        );
+    }
 }
 
 // A whole receive, where a request is due. An output that nothing is laid in stays.
 pub(crate) fn receive(c: Ctb, fence: u32, num_dwords: u32) -> Ctb {
-    let due = request(fence, num_dwords);
     let mut out = untouched();
     let done = stage::receive(c, &mut out);
     say::text(b"  Receive");
-    if done.code == 0 {
-        arrived(&out, done.len, &due);
-    } else if !same(&out, &untouched()) {
-        say::text(b", THE OUTPUT CHANGED");
-    }
+    laid(
+        stage::as_due(done.len, &out, &request(fence, num_dwords)),
+        done.len,
+        out[0],
+    );
     after(done)
 }

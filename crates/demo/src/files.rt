@@ -1,7 +1,6 @@
 // Firmware files: an image judged and handed out in parts, files put in its place, a directory with an image in it, and one that has the image's name twice.
 use firmware::Component;
 use firmware::ImageAnswer;
-use firmware::Located;
 use firmware::Sizes;
 use firmware::Version;
 use stage::Blob;
@@ -34,26 +33,16 @@ fn verdict(a: ImageAnswer, v: Version) {
     say::end();
 }
 
-// A component by its name, where it lies.
-fn component(which: usize, l: Located) {
-    say::line(
-        b"    uCode \n    RSA \n    modulus \n    exponent \n",
-        which,
-    );
-    say::part(l);
-    say::end();
-}
-
 // A file by its length: what it was answered, and where its parts lie, where it is accepted.
 fn judged(blob: &[u8]) {
     say::one(b"  A file of % bytes", blob.len() as u64);
     let a = firmware::css_answer(blob);
     verdict(a, firmware::css_version(blob));
     if a.code == 0 {
-        component(0, firmware::css_located(blob, Component::Ucode));
-        component(1, firmware::css_located(blob, Component::Rsa));
-        component(2, firmware::css_located(blob, Component::Modulus));
-        component(3, firmware::css_located(blob, Component::Exponent));
+        say::component(0, firmware::css_located(blob, Component::Ucode));
+        say::component(1, firmware::css_located(blob, Component::Rsa));
+        say::component(2, firmware::css_located(blob, Component::Modulus));
+        say::component(3, firmware::css_located(blob, Component::Exponent));
     }
 }
 
@@ -102,8 +91,8 @@ fn image_inside(blob: &[u8]) {
     let a = firmware::huc_answer(blob);
     verdict(a, firmware::huc_version(blob));
     if a.code == 0 {
-        component(0, firmware::huc_located(blob, Component::Ucode));
-        component(3, firmware::huc_located(blob, Component::Exponent));
+        say::component(0, firmware::huc_located(blob, Component::Ucode));
+        say::component(3, firmware::huc_located(blob, Component::Exponent));
     }
 }
 

@@ -14,12 +14,17 @@ fn swapped_after_look(c: Ctb) -> Ctb {
     let next = send_look(c, whole(&m));
     let before = m[2];
     m[2] = 0xdead_beef;
+    changed(before, m[2]);
+    next
+}
+
+// A dword of the caller's message, before and after.
+fn changed(before: u32, after: u32) {
     say::two(
         b"  The caller changes dword 2 of its message from & to &\n",
         before as u64,
-        m[2] as u64,
+        after as u64,
     );
-    next
 }
 
 // Look, store and publish, one at a time.

@@ -1,12 +1,12 @@
 // CSS images: judged at each length, and with sizes that disagree.
 use crate::wording::Parts;
 use crate::wording::each_part;
-use crate::wording::end;
 use crate::wording::image;
 use crate::wording::parts_or_none;
 use firmware::Component;
 use firmware::Sizes;
 use firmware::css_located;
+use say::end;
 use say::four;
 use say::one;
 use say::text;

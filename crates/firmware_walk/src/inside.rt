@@ -1,6 +1,5 @@
 // Parts inside a directory: manifests, and images judged as blobs of their own.
 use crate::wording::Parts;
-use crate::wording::end;
 use crate::wording::image;
 use crate::wording::parts_or_none;
 use crate::wording::verdict;
@@ -8,6 +7,7 @@ use firmware::Component;
 use firmware::ManifestVersion;
 use firmware::Sizes;
 use firmware::huc_located;
+use say::end;
 use say::one;
 use say::text;
 use say::two;

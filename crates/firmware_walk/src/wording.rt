@@ -3,40 +3,22 @@ use firmware::ImageAnswer;
 use firmware::Located;
 use firmware::Version;
 use say::either;
+use say::end;
 use say::part;
 use say::text;
 
-// The end of a line.
-pub(crate) fn end() {
-    text(b"\n");
-}
-
-// The number that says no, with its rule, on a line of its own.
-fn refused(code: u32) {
-    text(b"\n    REFUSED by ");
-    say::number(code);
-}
-
 // What a call answered: accepted, or the number that says no; ends the line.
 pub(crate) fn verdict(code: u32) {
-    if code == 0 {
-        text(b": accepted\n");
-    } else {
-        refused(code);
-        end();
-    }
+    say::verdict(code);
+    end();
 }
 
 // What an image was answered, and its version.
 pub(crate) fn image(a: ImageAnswer, v: Version) {
+    say::verdict(a.code);
     if a.code == 0 {
-        either(
-            a.truncated,
-            b": accepted, truncated; version ",
-            b": accepted, whole; version ",
-        );
+        either(a.truncated, b", truncated; version ", b", whole; version ");
     } else {
-        refused(a.code);
         text(b"; ");
     }
     say::image_version(v);

@@ -203,10 +203,10 @@ fn image(blob: &[u8]) {
         say::text(b": version ");
         say::image_version(firmware::huc_version(blob));
         image::left_out(f);
-        image::component(0, firmware::huc_located(blob, Component::Ucode));
-        image::component(1, firmware::huc_located(blob, Component::Rsa));
-        image::component(2, firmware::huc_located(blob, Component::Modulus));
-        image::component(3, firmware::huc_located(blob, Component::Exponent));
+        say::component(0, firmware::huc_located(blob, Component::Ucode));
+        say::component(1, firmware::huc_located(blob, Component::Rsa));
+        say::component(2, firmware::huc_located(blob, Component::Modulus));
+        say::component(3, firmware::huc_located(blob, Component::Exponent));
     } else {
         refusal(f);
         sharing::shared(f.code, blob, b"huc_fw");

@@ -139,19 +139,8 @@ fn sizes(z: firmware::Sizes) {
 
 // Where the components lie. One that is left out is the empty part at byte 0.
 fn components(blob: &[u8]) {
-    component(0, firmware::css_located(blob, Component::Ucode));
-    component(1, firmware::css_located(blob, Component::Rsa));
-    component(2, firmware::css_located(blob, Component::Modulus));
-    component(3, firmware::css_located(blob, Component::Exponent));
-}
-
-// A component's name and place.
-pub(crate) fn component(which: usize, l: firmware::Located) {
-    say::line(b"  uCode \n  RSA \n  modulus \n  exponent \n", which);
-    if l.start == 0 {
-        say::text(b"not in the file\n");
-    } else {
-        say::part(l);
-        say::text(b"\n");
-    }
+    say::component(0, firmware::css_located(blob, Component::Ucode));
+    say::component(1, firmware::css_located(blob, Component::Rsa));
+    say::component(2, firmware::css_located(blob, Component::Modulus));
+    say::component(3, firmware::css_located(blob, Component::Exponent));
 }

@@ -163,9 +163,8 @@ fn packed(m: Message) {
 }
 
 fn refused(code: u32) {
-    text(b"\n    REFUSED by ");
-    say::number(code);
-    text(b"\n");
+    say::verdict(code);
+    say::end();
 }
 
 // Who sent a message, what it carries, its fence and its NUM_DWORDS.

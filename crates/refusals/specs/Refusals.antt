@@ -1,7 +1,7 @@
 -- The customer's demand 1: any input gets an answer, refusals are given exactly when document 01 says, with what the
 -- landed requests of document 02 add, in its order, and leave what its table says.
 -- Each call, the number that it answers, and one statement, Demand1, over the rows of Table.antt.
-use Prim.Native.Nat.{ℕ}
+use Prim.Native.Nat.{ℕ, _<_}
 use mathlib.Core.Path.{_≡_}
 use mathlib.Core.Logic.{_↔_}
 use mathlib.Core.Bool.{false}
@@ -16,8 +16,10 @@ use Rattle.firmware.specs.Css
 use Rattle.firmware.specs.Cpd
 use Rattle.firmware.specs.Inside
 use Rattle.firmware.specs.Version.{cssReading, hucReading, manifestReading}
+use Rattle.firmware.specs.Figures.{imageFigures, directoryFigures, entryFigures, manifestFigures, hucFigures}
 use Rattle.firmware.specs.declared.bytes.Located.{Located}
 use Rattle.firmware.specs.declared.css.Component.{Component}
+use Rattle.firmware.specs.declared.figures.Figures.{Figures}
 use Rattle.refusals.specs.Order.{Row, Answered, AllPass}
 use Rattle.refusals.specs.Table.{fits, row-4, row-14-fields, openingRows, operationRows}
 use Rattle.refusals.specs.Table.{imageRows, directoryRows, seekTests, entryRows, manifestRows}
@@ -55,6 +57,13 @@ pub data PublicCall : Type 0 where
   hucLocationCall : Component → List ℕ → PublicCall
   hucAnswerCall : List ℕ → PublicCall
   hucVersionCall : List ℕ → PublicCall
+  -- ours, the number with bytes needed and there: css_figures, cpd_figures, cpd_entry_figures, manifest_figures, huc_figures
+  -- (css_sizes and cpd_marker answer no number)
+  imageFiguresCall : List ℕ → PublicCall
+  directoryFiguresCall : List ℕ → PublicCall
+  entryFiguresCall : List ℕ → ℕ → PublicCall
+  manifestFiguresCall : List ℕ → PublicCall
+  hucFiguresCall : List ℕ → PublicCall
 
 -- the number that a call answers, by the definition that its contract cites
 abbrev pub numberOf : PublicCall → ℕ
@@ -73,6 +82,11 @@ numberOf (manifestVersionCall blob) = manifestReading blob .number
 numberOf (hucLocationCall which blob) = Inside.hucLocated which blob .code
 numberOf (hucAnswerCall blob) = Inside.hucAnswer blob .code
 numberOf (hucVersionCall blob) = hucReading blob .number
+numberOf (imageFiguresCall blob) = imageFigures blob .code
+numberOf (directoryFiguresCall blob) = directoryFigures blob .code
+numberOf (entryFiguresCall blob i) = entryFigures blob i .code
+numberOf (manifestFiguresCall blob) = manifestFigures blob .code
+numberOf (hucFiguresCall blob) = hucFigures blob .code
 
 -- 'a part inside a directory is judged only after the directory's own numbers, 14 to 21, have passed', 22 among them
 -- since T-03: 'The manifest and CSS readings inside a directory pass 22 on and promise it.'
@@ -100,6 +114,11 @@ tests (manifestVersionCall blob) = manifestTests blob
 tests (hucLocationCall which blob) = hucTests blob
 tests (hucAnswerCall blob) = hucTests blob
 tests (hucVersionCall blob) = hucTests blob
+tests (imageFiguresCall blob) = imageRows blob ∷ []
+tests (directoryFiguresCall blob) = directoryRows blob ∷ []
+tests (entryFiguresCall blob i) = entryRows blob i ∷ []
+tests (manifestFiguresCall blob) = manifestTests blob
+tests (hucFiguresCall blob) = hucTests blob
 
 -- ---- what a refused call leaves and gives
 
@@ -108,6 +127,10 @@ pub record LocationRefused (l : Located) : Type 0 where
   pub at-start : l .start ≡ 0
   pub empty : l .len ≡ 0
   pub not-truncated : l .truncated ≡ false
+
+-- ours: fewer bytes are there than a refused number asks for, or it asks for none
+abbrev pub FiguresRefused : Figures → Type 0
+FiguresRefused f = (f .needed ≡ 0 → ⊥) → f .there < f .needed
 
 -- Blobs, names and messages are lent to be read only: that they stay is a matter of type.
 unfoldable pub LeftBy : PublicCall → Type 0
@@ -129,6 +152,12 @@ LeftBy (hucAnswerCall blob) = Inside.hucAnswer blob .truncated ≡ false
 LeftBy (imageVersionCall blob) = cssReading blob .version ≡ []
 LeftBy (manifestVersionCall blob) = manifestReading blob .version ≡ []
 LeftBy (hucVersionCall blob) = hucReading blob .version ≡ []
+-- bytes are missing by the figures, or the number asks for none
+LeftBy (imageFiguresCall blob) = FiguresRefused (imageFigures blob)
+LeftBy (directoryFiguresCall blob) = FiguresRefused (directoryFigures blob)
+LeftBy (entryFiguresCall blob i) = FiguresRefused (entryFigures blob i)
+LeftBy (manifestFiguresCall blob) = FiguresRefused (manifestFigures blob)
+LeftBy (hucFiguresCall blob) = FiguresRefused (hucFigures blob)
 
 -- ---- the demand
 

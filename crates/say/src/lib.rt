@@ -15,6 +15,7 @@ pub use numbers::line;
 pub use numbers::number;
 pub use numbers::sentence;
 pub use numbers::status;
+pub use parts::component;
 pub use parts::image_version;
 pub use parts::manifest_version;
 pub use parts::part;

@@ -1,6 +1,9 @@
 // Versions and parts of firmware files in words.
+use crate::answers::end;
+use crate::numbers::line;
 use crate::print::four;
 use crate::print::one;
+use crate::print::text;
 use firmware::Located;
 use firmware::ManifestVersion;
 use firmware::Version;
@@ -48,4 +51,18 @@ pub fn part(l: Located) {
         l.len as u64,
         0,
     );
+}
+
+// A component of an image by its rank, in a line of its own. One that is not shown starts at byte 0.
+pub fn component(which: usize, l: Located) {
+    line(
+        b"    uCode \n    RSA \n    modulus \n    exponent \n",
+        which,
+    );
+    if l.start == 0 {
+        text(b"not in the file");
+    } else {
+        part(l);
+    }
+    end();
 }

@@ -32,6 +32,7 @@ pub use files::put_directory;
 pub use files::put_dword;
 pub use files::put_entry;
 pub use files::put_image;
+pub use messages::as_due;
 pub use messages::fast_request;
 pub use messages::request;
 pub use messages::untouched;

@@ -1,6 +1,8 @@
 // Messages to send, each dword with a value of its own, and outputs to receive in.
+use crate::dwords::back;
 use crate::dwords::count_up;
 use crate::dwords::front;
+use crate::dwords::same;
 use message::Body;
 use message::MESSAGE_MAX;
 use message::Message;
@@ -61,4 +63,13 @@ fn packed(fence: u32, num_dwords: u32, body: Body) -> [u32; MESSAGE_MAX] {
 pub fn whole(dwords: &[u32; MESSAGE_MAX]) -> &[u32] {
     let len = message::total_length(dwords[0]);
     front(dwords, len)
+}
+
+// Whether an output has the first len dwords of the message that was due and is otherwise untouched, and len is 0 or that message's length.
+pub fn as_due(len: usize, out: &[u32; MESSAGE_MAX], due: &[u32; MESSAGE_MAX]) -> bool {
+    let before = untouched();
+    let length_due = message::total_length(due[0]);
+    let message_due = same(front(out, len), front(due, len));
+    let rest_untouched = same(back(out, len), back(&before, len));
+    ((len == 0) | (len == length_due)) & message_due & rest_untouched
 }

@@ -15,12 +15,16 @@ use Rattle.firmware.specs.Cpd
 use Rattle.firmware.specs.Inside.{hucNumber}
 use Rattle.firmware.specs.Version.{cssReading, hucReading, manifestReading, reading}
 use Rattle.firmware.specs.declared.css.Component.the-variants.{Ucode}
+use Rattle.firmware.proofs.Measured.{directory-code, entry-code, huc-code, image-code, manifest-code}
+use Rattle.firmware.proofs.Measured.{directory-missing, entry-missing, huc-missing, image-missing, manifest-missing}
 use Rattle.firmware.proofs.Nowhere.{entry-nowhere, huc-nowhere, image-nowhere, name-nowhere}
 use Rattle.refusals.specs.Table.{fits, operationRows}
 use Rattle.refusals.specs.Left.{OperationRefused, ReservedStay}
 use Rattle.refusals.specs.Refusals.{Demand1, LeftBy, PublicCall, directoryCall, entryCall}
 use Rattle.refusals.specs.Refusals.{hucAnswerCall, hucLocationCall, hucVersionCall, imageAnswerCall, imageLocationCall}
 use Rattle.refusals.specs.Refusals.{imageVersionCall, manifestVersionCall, nameAnswerCall, nameLocationCall, numberOf}
+use Rattle.refusals.specs.Refusals.{directoryFiguresCall, entryFiguresCall, hucFiguresCall, imageFiguresCall}
+use Rattle.refusals.specs.Refusals.{manifestFiguresCall}
 use Rattle.refusals.specs.Refusals.{openCall, operationCall, packCall, tests, unpackCall}
 use Rattle.refusals.proofs.Sends.{send-look, send-move, send-publish, send-whole}
 use Rattle.refusals.proofs.Receives.{opening-refused, receive-look, receive-move, receive-publish, receive-whole}
@@ -108,6 +112,11 @@ rise (manifestVersionCall blob) = refl
 rise (hucLocationCall which blob) = refl
 rise (hucAnswerCall blob) = refl
 rise (hucVersionCall blob) = refl
+rise (imageFiguresCall blob) = refl
+rise (directoryFiguresCall blob) = refl
+rise (entryFiguresCall blob i) = refl
+rise (manifestFiguresCall blob) = refl
+rise (hucFiguresCall blob) = refl
 
 number : (x : PublicCall) → numberOf x ≡ firstJudged (tests x)
 unfolding openBy Cpd.entriesOf cssReading hucReading manifestReading reading
@@ -126,6 +135,11 @@ number (manifestVersionCall blob) = manifest-number blob
 number (hucLocationCall which blob) = huc-number blob
 number (hucAnswerCall blob) = huc-number blob
 number (hucVersionCall blob) = huc-number blob
+number (imageFiguresCall blob) = image-code blob ∙ image-number blob ∙ alone _
+number (directoryFiguresCall blob) = directory-code blob ∙ directory-number blob ∙ alone _
+number (entryFiguresCall blob i) = entry-code blob i ∙ entry-number blob i ∙ alone _
+number (manifestFiguresCall blob) = manifest-code blob ∙ manifest-number blob
+number (hucFiguresCall blob) = huc-code blob ∙ huc-number blob
 
 left : (x : PublicCall) → (numberOf x ≡ 0 → ⊥) → LeftBy x
 unfolding LeftBy Cpd.entriesOf cssReading hucReading manifestReading
@@ -147,6 +161,11 @@ left (manifestVersionCall blob) z = reading-refused _ _ z
 left (hucLocationCall which blob) z = location-refused _ _ (huc-nowhere blob which (ne-eqb (hucNumber blob) 0 z))
 left (hucAnswerCall blob) z = location-refused _ _ (huc-nowhere blob Ucode (ne-eqb (hucNumber blob) 0 z)) .not-truncated
 left (hucVersionCall blob) z = reading-refused _ _ z
+left (imageFiguresCall blob) z = image-missing blob .missing z
+left (directoryFiguresCall blob) z = directory-missing blob .missing z
+left (entryFiguresCall blob i) z = entry-missing blob i .missing z
+left (manifestFiguresCall blob) z = manifest-missing blob .missing z
+left (hucFiguresCall blob) z = huc-missing blob .missing z
 
 demand1 : Demand1
 unfolding openBy
