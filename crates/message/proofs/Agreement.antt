@@ -41,7 +41,7 @@ origin-there bit l = go (eqb bit 0) refl
     go false e = omega (arith, eqb-false bit 0 e)
 
 -- what an answer carries
-answers : {A : Type 0} (n : ℕ) (x : Option A) → refusing n x .value ≡ x
+pub answers : {A : Type 0} (n : ℕ) (x : Option A) → refusing n x .value ≡ x
 unfolding refusing
 answers n none = refl
 answers n (some a) = refl

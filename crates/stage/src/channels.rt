@@ -1,4 +1,15 @@
 // A command transport buffer with the states of both sides, by value, and its calls.
+ghost use mathlib.Core.Path.{_≡_};
+ghost use mathlib.Core.List.{List, []};
+ghost use Prim.Native.Nat.{ℕ};
+ghost use lib.ListN.{set};
+ghost use Rattle.channel.specs.State.{idleAt};
+ghost use Rattle.channel.specs.Opening.{opening};
+ghost use Rattle.channel.specs.Outcome.{sent, stepped, received};
+ghost use Rattle.channel.specs.Operations.{sendLook, sendMove, sendPublish, sendWhole};
+ghost use Rattle.channel.specs.Operations.{receiveLook, receiveMove, receivePublish, receiveWhole};
+ghost use Rattle.stage.specs.Channels.{partsOf, unopenedParts, openedBy, sentBy, receivedBy, SenderDid, ReceiverDid};
+ghost use Rattle.stage.specs.Channels.{withDesc, withBuf, withSender};
 use channel::Received;
 use channel::Receiver;
 use channel::Sender;
@@ -21,7 +32,9 @@ pub struct Done {
 }
 
 // A ring of zeros under a descriptor that has other words, which nobody has opened.
-pub fn unopened() -> Ctb {
+pub fn unopened() -> Ctb
+    ensures { λ r. ⌜ partsOf r ≡ unopenedParts ⌝ }
+{
     Ctb {
         desc: [9u32; 16],
         buf: [0u32; 1024],
@@ -31,7 +44,9 @@ pub fn unopened() -> Ctb {
 }
 
 // Opens it, whatever it was.
-pub fn open(c: Ctb) -> Done {
+pub fn open(c: Ctb) -> Done
+    ensures { λ r. ⌜ (openedBy r ≡ opening (c .desc) (c .buf)) × (r .len ≡ 0) ⌝ }
+{
     let mut desc = c.desc;
     let buf = c.buf;
     let opened = channel::open_channel(&mut desc, &buf);
@@ -50,11 +65,13 @@ pub fn open(c: Ctb) -> Done {
 }
 
 // As a call of the sender left it.
-fn after_send(c: Ctb, sent: Sent, desc: [u32; 16], buf: [u32; 1024]) -> Done {
-    let sender = sent.next;
+fn after_send(c: Ctb, answer: Sent, desc: [u32; 16], buf: [u32; 1024]) -> Done
+    ensures { λ r. ⌜ (sentBy r ≡ sent answer desc buf) × (r .ctb .receiver ≡ c .receiver) ⌝ }
+{
+    let sender = answer.next;
     let receiver = c.receiver;
     Done {
-        code: sent.code,
+        code: answer.code,
         len: 0,
         ctb: Ctb {
             desc,
@@ -66,12 +83,15 @@ fn after_send(c: Ctb, sent: Sent, desc: [u32; 16], buf: [u32; 1024]) -> Done {
 }
 
 // As a call of the receiver left it.
-fn after_receive(c: Ctb, code: u32, len: usize, receiver: Receiver, desc: [u32; 16]) -> Done {
+fn after_receive(c: Ctb, got: Received, desc: [u32; 16]) -> Done
+    ensures { λ r. ⌜ ((o : List ℕ) → receivedBy r o ≡ received got desc (c .buf) o) × (r .ctb .sender ≡ c .sender) ⌝ }
+{
     let buf = c.buf;
     let sender = c.sender;
+    let receiver = got.next;
     Done {
-        code,
-        len,
+        code: got.code,
+        len: got.len,
         ctb: Ctb {
             desc,
             buf,
@@ -81,8 +101,22 @@ fn after_receive(c: Ctb, code: u32, len: usize, receiver: Receiver, desc: [u32; 
     }
 }
 
+// A step of a receive, which answers no length.
+fn no_length(s: Stepped) -> Received
+    ensures { λ r. ⌜ ((d b : List ℕ) → received r d b [] ≡ stepped s d b) ⌝ }
+{
+    let next = s.next;
+    Received {
+        code: s.code,
+        len: 0,
+        next,
+    }
+}
+
 // A whole send.
-pub fn send(c: Ctb, msg: &[u32]) -> Done {
+pub fn send(c: Ctb, msg: &[u32]) -> Done
+    ensures { λ r. ⌜ SenderDid (sendWhole (now (msg .entry))) c r ⌝ }
+{
     let s = c.sender;
     let mut desc = c.desc;
     let mut buf = c.buf;
@@ -91,7 +125,9 @@ pub fn send(c: Ctb, msg: &[u32]) -> Done {
 }
 
 // A send's look.
-pub fn send_look(c: Ctb, msg: &[u32]) -> Done {
+pub fn send_look(c: Ctb, msg: &[u32]) -> Done
+    ensures { λ r. ⌜ SenderDid (sendLook (now (msg .entry))) c r ⌝ }
+{
     let s = c.sender;
     let mut desc = c.desc;
     let buf = c.buf;
@@ -100,7 +136,9 @@ pub fn send_look(c: Ctb, msg: &[u32]) -> Done {
 }
 
 // A send's store.
-pub fn send_store(c: Ctb) -> Done {
+pub fn send_store(c: Ctb) -> Done
+    ensures { λ r. ⌜ SenderDid sendMove c r ⌝ }
+{
     let s = c.sender;
     let desc = c.desc;
     let mut buf = c.buf;
@@ -109,7 +147,9 @@ pub fn send_store(c: Ctb) -> Done {
 }
 
 // A send's publish.
-pub fn send_publish(c: Ctb) -> Done {
+pub fn send_publish(c: Ctb) -> Done
+    ensures { λ r. ⌜ SenderDid sendPublish c r ⌝ }
+{
     let s = c.sender;
     let mut desc = c.desc;
     let buf = c.buf;
@@ -118,47 +158,53 @@ pub fn send_publish(c: Ctb) -> Done {
 }
 
 // A whole receive into this output.
-pub fn receive(c: Ctb, out: &mut [u32; 256]) -> Done {
+pub fn receive(c: Ctb, out: &mut [u32; 256]) -> Done
+    ensures { λ r. ⌜ ReceiverDid (receiveWhole (now (out .entry))) (now (out .exit)) c r ⌝ }
+{
     let r = c.receiver;
     let mut desc = c.desc;
     let buf = c.buf;
     let got = r.receive(&mut desc, &buf, out);
-    let next = got.next;
-    after_receive(c, got.code, got.len, next, desc)
+    after_receive(c, got, desc)
 }
 
 // A receive's look.
-pub fn receive_look(c: Ctb) -> Done {
+pub fn receive_look(c: Ctb) -> Done
+    ensures { λ r. ⌜ ReceiverDid receiveLook [] c r ⌝ }
+{
     let r = c.receiver;
     let mut desc = c.desc;
     let buf = c.buf;
     let stepped = r.look(&mut desc, &buf);
-    let next = stepped.next;
-    after_receive(c, stepped.code, 0, next, desc)
+    after_receive(c, no_length(stepped), desc)
 }
 
 // A receive's copy.
-pub fn receive_copy(c: Ctb) -> Done {
+pub fn receive_copy(c: Ctb) -> Done
+    ensures { λ r. ⌜ ReceiverDid receiveMove [] c r ⌝ }
+{
     let r = c.receiver;
     let desc = c.desc;
     let buf = c.buf;
     let stepped = r.copy(&desc, &buf);
-    let next = stepped.next;
-    after_receive(c, stepped.code, 0, next, desc)
+    after_receive(c, no_length(stepped), desc)
 }
 
 // A receive's publish into this output.
-pub fn receive_publish(c: Ctb, out: &mut [u32; 256]) -> Done {
+pub fn receive_publish(c: Ctb, out: &mut [u32; 256]) -> Done
+    ensures { λ r. ⌜ ReceiverDid (receivePublish (now (out .entry))) (now (out .exit)) c r ⌝ }
+{
     let r = c.receiver;
     let mut desc = c.desc;
     let buf = c.buf;
     let got = r.publish(&mut desc, &buf, out);
-    let next = got.next;
-    after_receive(c, got.code, got.len, next, desc)
+    after_receive(c, got, desc)
 }
 
 // Somebody else writes a word of the descriptor.
-pub fn with_word(c: Ctb, word: usize, value: u32) -> Ctb {
+pub fn with_word(c: Ctb, word: usize, value: u32) -> Ctb
+    ensures { λ r. ⌜ partsOf r ≡ withDesc (set (c .desc) word value) (partsOf c) ⌝ }
+{
     let mut desc = c.desc;
     ring::put(&mut desc, word, value);
     let mut next = c;
@@ -167,7 +213,9 @@ pub fn with_word(c: Ctb, word: usize, value: u32) -> Ctb {
 }
 
 // Somebody else writes a dword of the ring.
-pub fn with_dword(c: Ctb, place: usize, value: u32) -> Ctb {
+pub fn with_dword(c: Ctb, place: usize, value: u32) -> Ctb
+    ensures { λ r. ⌜ partsOf r ≡ withBuf (set (c .buf) place value) (partsOf c) ⌝ }
+{
     let mut buf = c.buf;
     ring::put(&mut buf, place, value);
     let mut next = c;
@@ -176,7 +224,9 @@ pub fn with_dword(c: Ctb, place: usize, value: u32) -> Ctb {
 }
 
 // Another sender takes over, with this own tail.
-pub fn with_sender_at(c: Ctb, own: usize) -> Ctb {
+pub fn with_sender_at(c: Ctb, own: usize) -> Ctb
+    ensures { λ r. ⌜ partsOf r ≡ withSender (idleAt 1024 own) (partsOf c) ⌝ }
+{
     let sender = Sender::idle_at(1024, own);
     let mut next = c;
     next.sender = sender;

@@ -1,11 +1,11 @@
 // Dwords filled, compared and found.
 ghost use mathlib.Core.Path.{_≡_};
 ghost use mathlib.Core.Bool.{true};
-ghost use Prim.Native.Nat.{ℕ, _<_};
-ghost use lib.ListN.{length, getD};
+ghost use lib.ListN.{length, take, drop};
+ghost use Rattle.stage.specs.Dwords.{counting, placeOf, FrontOf};
 
 // Whether the two hold the same dwords.
-pub fn same(a: &[u32], b: &[u32]) -> bool
+pub(crate) fn same(a: &[u32], b: &[u32]) -> bool
     ensures { λ r. ⌜ (r ≡ true → now (a .entry) ≡ now (b .entry)) × (now (a .entry) ≡ now (b .entry) → r ≡ true) ⌝ }
 {
     if a.len() != b.len() {
@@ -23,8 +23,7 @@ pub fn same(a: &[u32], b: &[u32]) -> bool
 
 // The first place that holds the dword, or the number of places where none does.
 pub fn place_of(buf: &[u32], dword: u32) -> usize
-    ensures before { λ r. ⌜ ((k : ℕ) → k < r → getD (now (buf .entry)) k 0 ≡ dword → ⊥) ⌝ }
-    ensures found { λ r. ⌜ (r < length (now (buf .entry)) → getD (now (buf .entry)) r 0 ≡ dword) ⌝ }
+    ensures { λ r. ⌜ r ≡ placeOf (now (buf .entry)) dword ⌝ }
 {
     let mut i = 0;
     while i < buf.len() {
@@ -37,17 +36,24 @@ pub fn place_of(buf: &[u32], dword: u32) -> usize
 }
 
 // The first len dwords, or all where there are fewer.
-pub fn front(s: &[u32], len: usize) -> &[u32] {
+pub(crate) fn front(s: &[u32], len: usize) -> &[u32]
+    ensures { λ r. ⌜ FrontOf (s .entry) (take len (now (s .entry))) r ⌝ }
+{
     if len <= s.len() { &s[0..len] } else { s }
 }
 
-// The dwords after the first count, or all where there are fewer.
-pub fn back(s: &[u32], count: usize) -> &[u32] {
-    if count <= s.len() { &s[count..] } else { s }
+// The dwords after the first count, none where there are fewer.
+pub(crate) fn back(s: &[u32], count: usize) -> &[u32]
+    ensures { λ r. ⌜ now r ≡ drop count (now (s .entry)) ⌝ }
+{
+    let end = s.len();
+    if count <= end { &s[count..] } else { &s[end..] }
 }
 
 // Fills the dwords with numbers that count up from first.
-pub(crate) fn count_up(s: &mut [u32], first: u32) {
+pub(crate) fn count_up(s: &mut [u32], first: u32)
+    ensures { λ _. ⌜ now (s .exit) ≡ counting first (length (now (s .entry))) ⌝ }
+{
     let mut next = first;
     let mut i = 0;
     while i < s.len() {

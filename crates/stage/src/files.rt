@@ -1,44 +1,67 @@
 // Firmware files laid byte by byte: numbers, names, image headers, directories and entries. What does not fit is not laid.
+ghost use mathlib.Core.Path.{_≡_};
+ghost use Prim.Native.Nat.{_%_, _^_, _≤_};
+ghost use lib.ListN.{getD, set, take, replicate};
+ghost use Rattle.stage.specs.Dwords.{FrontOf};
+ghost use Rattle.stage.specs.Files;
 use firmware::Sizes;
 
 // Room for any file of a scene; a line takes as many of its first bytes as it speaks of.
 pub type Blob = [u8; 4700];
 
 // Room with nothing laid in it.
-pub fn blank() -> Blob {
+pub fn blank() -> Blob
+    ensures { λ r. ⌜ r ≡ replicate 4700 0 ⌝ }
+{
     [0u8; 4700]
 }
 
 // The first len bytes, or all where there are fewer.
-fn shortened(s: &[u8], len: usize) -> &[u8] {
+fn shortened(s: &[u8], len: usize) -> &[u8]
+    ensures { λ r. ⌜ FrontOf (s .entry) (take len (now (s .entry))) r ⌝ }
+{
     if len <= s.len() { &s[0..len] } else { s }
 }
 
 // The first len bytes of a blob.
-pub fn cut(blob: &Blob, len: usize) -> &[u8] {
+pub fn cut(blob: &Blob, len: usize) -> &[u8]
+    ensures { λ r. ⌜ FrontOf (blob .entry) (take len (now (blob .entry))) r ⌝ }
+{
     shortened(blob, len)
 }
 
 // Stores a byte.
-pub fn put_byte(s: &mut [u8], at: usize, v: u8) {
+pub fn put_byte(s: &mut [u8], at: usize, v: u8)
+    ensures { λ _. ⌜ now (s .exit) ≡ set (now (s .entry)) at v ⌝ }
+{
     if at < s.len() {
         s[at] = v;
     }
 }
 
+// Stores four bytes in front.
+fn put_front(s: &mut [u8], a: u8, b: u8, c: u8, d: u8)
+    ensures { λ _. ⌜ now (s .exit) ≡ Files.four a b c d (now (s .entry)) ⌝ }
+{
+    put_byte(s, 0, a);
+    put_byte(s, 1, b);
+    put_byte(s, 2, c);
+    put_byte(s, 3, d);
+}
+
 // Stores four bytes.
-fn put_four(s: &mut [u8], at: usize, a: u8, b: u8, c: u8, d: u8) {
+fn put_four(s: &mut [u8], at: usize, a: u8, b: u8, c: u8, d: u8)
+    ensures { λ _. ⌜ now (s .exit) ≡ Files.from at (Files.four a b c d) (now (s .entry)) ⌝ }
+{
     if at <= s.len() {
-        let four = &mut s[at..];
-        put_byte(four, 0, a);
-        put_byte(four, 1, b);
-        put_byte(four, 2, c);
-        put_byte(four, 3, d);
+        put_front(&mut s[at..], a, b, c, d);
     }
 }
 
 // Stores a dword, little-endian.
-pub fn put_dword(s: &mut [u8], at: usize, v: u32) {
+pub fn put_dword(s: &mut [u8], at: usize, v: u32)
+    ensures { λ _. ⌜ now (s .exit) ≡ Files.dword at v (now (s .entry)) ⌝ }
+{
     put_four(
         s,
         at,
@@ -50,72 +73,84 @@ pub fn put_dword(s: &mut [u8], at: usize, v: u32) {
 }
 
 // Byte j of a name, zero padded.
-fn padded(name: &[u8], j: usize) -> u8 {
+fn padded(name: &[u8], j: usize) -> u8
+    ensures { λ r. ⌜ r ≡ getD (now (name .entry)) j 0 ⌝ }
+{
     if j < name.len() { name[j] } else { 0 }
 }
 
+// Stores four bytes of a name, from byte j of it on, at byte j.
+fn put_padded(s: &mut [u8], name: &[u8], j: usize)
+    requires { ⌜ j ≤ 8 ⌝ }
+    ensures { λ _. ⌜ now (s .exit) ≡ Files.padded (now (name .entry)) j (now (s .entry)) ⌝ }
+{
+    let a = padded(name, j);
+    let b = padded(name, j + 1);
+    let c = padded(name, j + 2);
+    let d = padded(name, j + 3);
+    put_four(s, j, a, b, c, d);
+}
+
 // Stores the twelve bytes of a name, zero padded.
-fn put_name(s: &mut [u8], name: &[u8]) {
-    put_four(
-        s,
-        0,
-        padded(name, 0),
-        padded(name, 1),
-        padded(name, 2),
-        padded(name, 3),
-    );
-    put_four(
-        s,
-        4,
-        padded(name, 4),
-        padded(name, 5),
-        padded(name, 6),
-        padded(name, 7),
-    );
-    put_four(
-        s,
-        8,
-        padded(name, 8),
-        padded(name, 9),
-        padded(name, 10),
-        padded(name, 11),
-    );
+fn put_name(s: &mut [u8], name: &[u8])
+    ensures { λ _. ⌜ now (s .exit) ≡ Files.name (now (name .entry)) (now (s .entry)) ⌝ }
+{
+    put_padded(s, name, 0);
+    put_padded(s, name, 4);
+    put_padded(s, name, 8);
 }
 
 // The header of an image that starts at byte `at`, with those sizes and version 70.5.1.
-pub fn put_image(s: &mut [u8], at: usize, z: Sizes) {
+pub fn put_image(s: &mut [u8], at: usize, z: Sizes)
+    ensures { λ _. ⌜ now (s .exit) ≡ Files.from at (Files.header z) (now (s .entry)) ⌝ }
+{
     if at <= s.len() {
         put_header(&mut s[at..], z);
     }
 }
 
-// The low 32 bits of a size.
-fn dword_of(size: usize) -> u32 {
-    (size % 0x1_0000_0000) as u32
+// Stores a size, in a dword.
+fn put_size(s: &mut [u8], at: usize, size: usize)
+    ensures { λ _. ⌜ now (s .exit) ≡ Files.dword at (size % 2 ^ 32) (now (s .entry)) ⌝ }
+{
+    put_dword(s, at, (size % 0x1_0000_0000) as u32);
 }
 
-fn put_header(s: &mut [u8], z: Sizes) {
-    put_dword(s, 4, dword_of(z.h));
-    put_dword(s, 24, dword_of(z.s));
-    put_dword(s, 28, dword_of(z.k));
-    put_dword(s, 32, dword_of(z.m));
-    put_dword(s, 36, dword_of(z.e));
+fn put_header(s: &mut [u8], z: Sizes)
+    ensures { λ _. ⌜ now (s .exit) ≡ Files.header z (now (s .entry)) ⌝ }
+{
+    put_size(s, 4, z.h);
+    put_size(s, 24, z.s);
+    put_size(s, 28, z.k);
+    put_size(s, 32, z.m);
+    put_size(s, 36, z.e);
     put_dword(s, 64, 0x0046_0501);
 }
 
 // The marker $CPD, the entry count and the header length of a directory.
-pub fn put_directory(s: &mut [u8], count: u32, header: u8) {
+pub fn put_directory(s: &mut [u8], count: u32, header: u8)
+    ensures { λ _. ⌜ now (s .exit) ≡ Files.directory count header (now (s .entry)) ⌝ }
+{
     put_dword(s, 0, 0x4450_4324);
     put_dword(s, 4, count);
     put_byte(s, 10, header);
 }
 
-// An entry at byte `at`: its name, its offset as stored, and its length.
-pub fn put_entry(s: &mut [u8], at: usize, name: &[u8], offset: u32, len: u32) {
+// An entry in front: its name, its offset as stored, and its length.
+fn put_entry_front(s: &mut [u8], name: &[u8], offset: u32, len: u32)
+    ensures { λ _. ⌜ now (s .exit) ≡ Files.entry (now (name .entry)) offset len (now (s .entry)) ⌝ }
+{
+    put_name(s, name);
+    put_dword(s, 12, offset);
+    put_dword(s, 16, len);
+}
+
+// An entry at byte `at`.
+pub fn put_entry(s: &mut [u8], at: usize, name: &[u8], offset: u32, len: u32)
+    ensures { λ _.
+        ⌜ now (s .exit) ≡ Files.from at (Files.entry (now (name .entry)) offset len) (now (s .entry)) ⌝ }
+{
     if at <= s.len() {
-        let entry = &mut s[at..];
-        put_name(entry, name);
-        put_dword(entry, 12, offset);
-        put_dword(entry, 16, len);
+        put_entry_front(&mut s[at..], name, offset, len);
     }
 }

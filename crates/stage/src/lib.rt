@@ -1,5 +1,5 @@
-// What programs build their scenes with: a channel with both its sides, messages to send, outputs to receive in, firmware files laid byte by byte, and
-// comparisons. Proved once, here.
+// What programs build their scenes with: a channel with both its sides, messages to send, outputs to receive in,
+// firmware files laid byte by byte, and comparisons. Each is held to a definition, once, here.
 mod channels;
 mod dwords;
 mod files;
@@ -20,10 +20,7 @@ pub use channels::unopened;
 pub use channels::with_dword;
 pub use channels::with_sender_at;
 pub use channels::with_word;
-pub use dwords::back;
-pub use dwords::front;
 pub use dwords::place_of;
-pub use dwords::same;
 pub use files::Blob;
 pub use files::blank;
 pub use files::cut;

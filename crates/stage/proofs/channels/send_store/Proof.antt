@@ -1,0 +1,20 @@
+-- `channels::send_store` meets its contract: it is the sender's own call, on the parts of the channel. Assumes nothing.
+use mathlib.Core.Path.{_∙_}
+use borrow.Author.Needs.{needs}
+use Rattle.stage.proofs.channels.send_store.Statement.{statement}
+use Rattle.stage.proofs.channels.send_store.Tie as tie
+
+returns : tie.Need-returns
+returns c =
+    let did = c .after-send .ensures in
+    record { does = did .0 ∙ c .before .before .store .ensures; leaves = did .1 }
+
+pub send-store-spec : {M : Type 1} → statement M
+send-store-spec =
+    tie.close
+    (tie.spec
+    (λ c. search needs)
+    (λ c. search needs)
+    (λ c κs. search needs)
+    (λ c κs. search needs)
+    returns)

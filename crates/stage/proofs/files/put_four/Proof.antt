@@ -1,0 +1,23 @@
+-- `files::put_four` meets its contract: it is laid in the part that starts at `at`, where there is one. Assumes nothing.
+use Rattle.stage.proofs.Laws.{from-part, from-none}
+use borrow.Author.Needs.{needs}
+use Rattle.stage.proofs.files.put_four.Statement.{statement}
+use Rattle.stage.proofs.files.put_four.Tie as tie
+
+returns : tie.Need-returns
+returns c = from-part _ _ _ _ (c .before .before .before .before .if1 .taken) (c .before .before .put-front .ensures)
+
+returns-2 : tie.Need-returns-2
+returns-2 c = from-none _ _ _ (c .if1 .left)
+
+pub put-four-spec : {M : Type 1} → statement M
+put-four-spec =
+    tie.close
+    (tie.spec
+    (λ c. search needs)
+    (λ c. search needs)
+    (λ c. search needs)
+    (λ c κs. search needs)
+    (λ c. search needs)
+    returns
+    returns-2)

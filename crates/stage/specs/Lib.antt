@@ -1,0 +1,4 @@
+pub mod Dwords
+pub mod Channels
+pub mod Files
+pub mod Messages
