@@ -1,5 +1,4 @@
 // Firmware files: an image judged and handed out in parts, files put in its place, a directory with an image in it, and one that has the image's name twice.
-use firmware::Component;
 use firmware::ImageAnswer;
 use firmware::Sizes;
 use firmware::Version;
@@ -39,10 +38,7 @@ fn judged(blob: &[u8]) {
     let a = firmware::css_answer(blob);
     verdict(a, firmware::css_version(blob));
     if a.code == 0 {
-        say::component(0, firmware::css_located(blob, Component::Ucode));
-        say::component(1, firmware::css_located(blob, Component::Rsa));
-        say::component(2, firmware::css_located(blob, Component::Modulus));
-        say::component(3, firmware::css_located(blob, Component::Exponent));
+        say::image_parts(blob);
     }
 }
 
@@ -91,8 +87,7 @@ fn image_inside(blob: &[u8]) {
     let a = firmware::huc_answer(blob);
     verdict(a, firmware::huc_version(blob));
     if a.code == 0 {
-        say::component(0, firmware::huc_located(blob, Component::Ucode));
-        say::component(3, firmware::huc_located(blob, Component::Exponent));
+        say::inner_parts(blob);
     }
 }
 

@@ -56,8 +56,8 @@ pub(crate) struct Extent {
 }
 
 // Whether the first four bytes are the marker $CPD.
-fn has_marker(blob: &[u8]) -> bool
-    requires { ⌜ 20 ≤ length (now blob) ⌝ }
+pub(crate) fn has_marker(blob: &[u8]) -> bool
+    requires { ⌜ 4 ≤ length (now blob) ⌝ }
     ensures { λ r. ⌜ r ≡ Cpd.hasMarker (now (blob .entry)) ⌝ }
 {
     (blob[0] == 0x24) & (blob[1] == 0x43) & (blob[2] == 0x50) & (blob[3] == 0x44)

@@ -7,6 +7,7 @@ ghost use Rattle.firmware.specs.Figures.{unmeasured, measured, imageFigu
 use crate::cpd::ENTRY_BYTES;
 use crate::cpd::cpd_located;
 use crate::cpd::extent_at;
+use crate::cpd::has_marker;
 use crate::cpd::read_table;
 use crate::css::HEADER_BYTES;
 use crate::css::Sizes;
@@ -93,7 +94,7 @@ pub fn cpd_marker(blob: &[u8]) -> bool
     if blob.len() < 4 {
         return false;
     }
-    (blob[0] == 0x24) & (blob[1] == 0x43) & (blob[2] == 0x50) & (blob[3] == 0x44)
+    has_marker(blob)
 }
 
 // The figures of a directory.

@@ -4,7 +4,6 @@ use crate::kinds;
 use crate::options::Expected;
 use crate::sharing;
 use crate::verdicts;
-use firmware::Component;
 use firmware::ManifestVersion;
 
 // So many entries are named; of more it is said how many there are.
@@ -203,10 +202,7 @@ fn image(blob: &[u8]) {
         say::text(b": version ");
         say::image_version(firmware::huc_version(blob));
         image::left_out(f);
-        say::component(0, firmware::huc_located(blob, Component::Ucode));
-        say::component(1, firmware::huc_located(blob, Component::Rsa));
-        say::component(2, firmware::huc_located(blob, Component::Modulus));
-        say::component(3, firmware::huc_located(blob, Component::Exponent));
+        say::inner_parts(blob);
     } else {
         refusal(f);
         sharing::shared(f.code, blob, b"huc_fw");

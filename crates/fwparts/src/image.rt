@@ -1,9 +1,8 @@
 // CSS images: the verdict, and the figures behind it.
+use crate::bytes::starts;
 use crate::kinds;
 use crate::options::Expected;
 use crate::verdicts;
-use crate::words::starts;
-use firmware::Component;
 use firmware::Version;
 
 // A file without the marker $CPD.
@@ -117,7 +116,7 @@ pub(crate) fn figures(blob: &[u8], class: u32) {
             f.needed as u64,
             0,
         );
-        components(blob);
+        say::image_parts(blob);
     } else if f.code == 16 {
         sizes(firmware::css_sizes(blob));
     } else {
@@ -135,12 +134,4 @@ fn sizes(z: firmware::Sizes) {
         z.e as u64,
         0,
     );
-}
-
-// Where the components lie. One that is left out is the empty part at byte 0.
-fn components(blob: &[u8]) {
-    say::component(0, firmware::css_located(blob, Component::Ucode));
-    say::component(1, firmware::css_located(blob, Component::Rsa));
-    say::component(2, firmware::css_located(blob, Component::Modulus));
-    say::component(3, firmware::css_located(blob, Component::Exponent));
 }

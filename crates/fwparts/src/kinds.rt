@@ -1,8 +1,8 @@
 // Files that are no firmware file that is judged here, named for what they are. The library judges first: what it accepts is never taken for one of these.
 ghost use Prim.Native.Nat.{_<_};
+use crate::bytes::byte;
+use crate::bytes::starts;
 use crate::verdicts;
-use crate::words::byte;
-use crate::words::starts;
 
 // The lines of `named`.
 const XZ: usize = 0;

@@ -1,6 +1,6 @@
 // The options in front of the files.
-use crate::words::byte;
-use crate::words::equal;
+use crate::bytes::byte;
+use crate::bytes::equal;
 
 // A version that is expected: how many of its numbers are given, none where no version is, and the numbers.
 pub(crate) struct Expected {

@@ -1,6 +1,6 @@
 // A part written to a new file: of the very bytes that were judged good in this run.
+use crate::bytes::equal;
 use crate::verdicts;
-use crate::words::equal;
 use firmware::Component;
 
 // Writes the part that argument `name` names to the new file that argument `out` names.

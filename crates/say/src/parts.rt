@@ -4,6 +4,7 @@ use crate::numbers::line;
 use crate::print::four;
 use crate::print::one;
 use crate::print::text;
+use firmware::Component;
 use firmware::Located;
 use firmware::ManifestVersion;
 use firmware::Version;
@@ -54,7 +55,7 @@ pub fn part(l: Located) {
 }
 
 // A component of an image by its rank, in a line of its own. One that is not shown starts at byte 0.
-pub fn component(which: usize, l: Located) {
+fn component(which: usize, l: Located) {
     line(
         b"    uCode \n    RSA \n    modulus \n    exponent \n",
         which,
@@ -65,4 +66,20 @@ pub fn component(which: usize, l: Located) {
         part(l);
     }
     end();
+}
+
+// The components of an image, a line each.
+pub fn image_parts(blob: &[u8]) {
+    component(0, firmware::css_located(blob, Component::Ucode));
+    component(1, firmware::css_located(blob, Component::Rsa));
+    component(2, firmware::css_located(blob, Component::Modulus));
+    component(3, firmware::css_located(blob, Component::Exponent));
+}
+
+// Those of the image in a directory, by their places in the directory.
+pub fn inner_parts(blob: &[u8]) {
+    component(0, firmware::huc_located(blob, Component::Ucode));
+    component(1, firmware::huc_located(blob, Component::Rsa));
+    component(2, firmware::huc_located(blob, Component::Modulus));
+    component(3, firmware::huc_located(blob, Component::Exponent));
 }
