@@ -106,7 +106,8 @@ pub(crate) fn cut_short() {
     receive_look(with_tail(c, 6));
 }
 
-// A message of unknown type and a header alone are passed over, and the good message behind them, a fast request, is received.
+// A message of unknown type and a header alone are passed over, and the good message behind them, a fast request, is
+// received.
 pub(crate) fn passed_over() {
     text(b"\nWhole messages that are malformed\n");
     let c = unknown_type(open());

@@ -1,4 +1,5 @@
-// Walks a channel of 1,024 dwords through what it accepts and what it refuses, a few printed lines for each thing that happens.
+// Walks a channel of 1,024 dwords through what it accepts and what it refuses, a few printed lines for each thing that
+// happens.
 mod broken;
 mod calls;
 mod filling;

@@ -1,4 +1,5 @@
-// Firmware files: an image judged and handed out in parts, files put in its place, a directory with an image in it, and one that has the image's name twice.
+// Firmware files: an image judged and handed out in parts, files put in its place, a directory with an image in it, and
+// one that has the image's name twice.
 use firmware::ImageAnswer;
 use firmware::Sizes;
 use firmware::Version;
@@ -56,7 +57,8 @@ pub(crate) fn images() {
     judged(cut(&image(36), 160));
 }
 
-// A directory with HUCP.man, of version 9.4.2.0, from byte 68 to 112 and that image as huc_fw from there to 272; the first entry's name is given.
+// A directory with HUCP.man, of version 9.4.2.0, from byte 68 to 112 and that image as huc_fw from there to 272; the
+// first entry's name is given.
 fn directory(first: &[u8]) -> Blob {
     let mut blob = stage::blank();
     stage::put_directory(&mut blob, 2, 20);

@@ -1,5 +1,5 @@
--- Numbers in a blob, parts of a lent blob, and numbers that are judged one after another (document 01, 'Firmware images' and
--- 'The numbers that say no').
+-- Numbers in a blob, parts of a lent blob, and numbers that are judged one after another (document 01, 'Firmware
+-- images' and 'The numbers that say no').
 use Prim.Native.Nat.{ℕ, _+_, _-_, _*_}
 use mathlib.Core.Path.{_≡_}
 use mathlib.Core.Bool.{Bool, cond}

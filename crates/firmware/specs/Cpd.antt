@@ -1,4 +1,5 @@
--- Code partition directories (document 01, 'Firmware images', and document 02, T-03): seeking a name, and where its part lies.
+-- Code partition directories (document 01, 'Firmware images', and document 02, T-03): seeking a name, and where its
+-- part lies.
 use Prim.Native.Nat.{ℕ, zero, suc, _+_, _*_, _%_, _^_}
 use mathlib.Core.Bool.{Bool, true, false, not, _&&_, cond}
 use mathlib.Core.List.{List}
@@ -50,7 +51,8 @@ directoryNumber b =
 abbrev pub entryStart : List ℕ → ℕ → ℕ
 entryStart b i = headerLength b + 24 * i
 
--- 'An entry: name 12 bytes (zero padded), offset dword (bits 24:0 count), length dword, 4 reserved bytes.', of the entry at byte at
+-- 'An entry: name 12 bytes (zero padded), offset dword (bits 24:0 count), length dword, 4 reserved bytes.', of the
+-- entry at byte at
 abbrev pub offset : List ℕ → ℕ → ℕ
 offset b at = dwordAt b (at + 12) % 2 ^ 25
 
@@ -69,8 +71,8 @@ agrees b name at = all (λ j. eqb (getD b (at + j) 0) (getD name j 0)) 12
 abbrev pub hasName : List ℕ → List ℕ → ℕ → Bool
 hasName b name i = agrees b name (entryStart b i)
 
--- 'The walk ends at the first entry whose twelve bytes agree.': its index, or n where there is none. Since T-03 the walk goes on, so that a seek answers it only where
--- it is the only one
+-- 'The walk ends at the first entry whose twelve bytes agree.': its index, or n where there is none. Since T-03 the
+-- walk goes on, so that a seek answers it only where it is the only one
 unfoldable pub firstEntry : List ℕ → List ℕ → ℕ
 firstEntry b name = firstFrom (hasName b name) 0 (count b)
 
@@ -82,8 +84,9 @@ entriesNamed b name = countFrom (hasName b name) 0 (count b)
 abbrev pub partNumber : List ℕ → ℕ → ℕ
 partNumber b i = cond (ltb (length b) (entryPart b (entryStart b i) .to)) 21 0
 
--- 14 'name to seek not 1 to 12 bytes without a zero'; 15, 18 and 19; 20 'no entry of that name'; T-03: 'Seeking a name must refuse with a new number 22 when
--- more than one entry has it, tested after 20 and before 21'; 21 of the one entry that has it
+-- 14 'name to seek not 1 to 12 bytes without a zero'; 15, 18 and 19; 20 'no entry of that name'; T-03: 'Seeking a name
+-- must refuse with a new number 22 when more than one entry has it, tested after 20 and before 21'; 21 of the one entry
+-- that has it
 unfoldable pub number : List ℕ → List ℕ → ℕ
 number b name =
     cond (not (isName name)) 14
@@ -98,7 +101,8 @@ place b name = cond (eqb (number b name) 0) (entryPart b (entryStart b (firstEnt
 abbrev pub located : List ℕ → List ℕ → Located
 located b name = placed (number b name) false (place b name)
 
--- ours, for a list of all entries: entry i by its index: 15, 18 and 19, then 20 where there is no such entry, then 21. No name is sought, so there is no 22
+-- ours, for a list of all entries: entry i by its index: 15, 18 and 19, then 20 where there is no such entry, then 21.
+-- No name is sought, so there is no 22
 unfoldable pub entryNumber : List ℕ → ℕ → ℕ
 entryNumber b i = then (directoryNumber b) (cond (leb (count b) i) 20 (partNumber b i))
 

@@ -14,7 +14,8 @@ use Rattle.firmware.specs.declared.css.Component.the-variants.{Ucode, Rs
 abbrev pub headerDword : List ℕ → ℕ → ℕ
 headerDword b i = dwordAt b (4 * i)
 
--- 'Dwords: 1 = h (all that is not uCode), 6 = s (all), 7 = k (RSA), 8 = m (modulus), 9 = e (exponent)'; 'Sizes are in dwords.'
+-- 'Dwords: 1 = h (all that is not uCode), 6 = s (all), 7 = k (RSA), 8 = m (modulus), 9 = e (exponent)'; 'Sizes are in
+-- dwords.'
 unfoldable pub sizes : List ℕ → Sizes
 sizes b = record { h = headerDword b 1; s = headerDword b 6; k = headerDword b 7; m = headerDword b 8; e = headerDword b 9 }
 
@@ -22,7 +23,8 @@ sizes b = record { h = headerDword b 1; s = headerDword b 6; k = headerDword b 7
 unfoldable pub agree : Sizes → Bool
 agree z = eqb (z .h) (32 + z .k + z .m + z .e) && leb 1 (z .k) && ltb (z .h) (z .s)
 
--- 'Order: header, uCode, RSA, modulus, exponent.' The header has 128 bytes, and each component starts where the one before it ends.
+-- 'Order: header, uCode, RSA, modulus, exponent.' The header has 128 bytes, and each component starts where the one
+-- before it ends.
 abbrev pub spanAfter : Span → ℕ → Span
 spanAfter p dwords = span (p .to) (p .to + 4 * dwords)
 

@@ -1,5 +1,5 @@
--- Bytes needed and bytes there beside a number (ours, for what a crew is told; document 02's T-04 asks for them: 'with bytes needed
--- and there, counted from the start of the blob or part judged, for 15, 17, 19 and 21').
+-- Bytes needed and bytes there beside a number (ours, for what a crew is told; document 02's T-04 asks for them: 'with
+-- bytes needed and there, counted from the start of the blob or part judged, for 15, 17, 19 and 21').
 use Prim.Native.Nat.{ℕ, _+_, _-_, _*_}
 use mathlib.Core.Bool.{cond}
 use mathlib.Core.List.{List}

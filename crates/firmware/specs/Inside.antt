@@ -1,5 +1,6 @@
--- Parts inside a directory (document 01, 'Firmware images', and 'The numbers that say no': 'a part inside a directory is judged only after the directory's own
--- numbers, 14 to 21, have passed', 22 among them since document 02's T-03: 'The manifest and CSS readings inside a directory pass 22 on and promise it.').
+-- Parts inside a directory (document 01, 'Firmware images', and 'The numbers that say no': 'a part inside a directory
+-- is judged only after the directory's own numbers, 14 to 21, have passed', 22 among them since document 02's T-03:
+-- 'The manifest and CSS readings inside a directory pass 22 on and promise it.').
 use Prim.Native.Nat.{ℕ, _+_}
 use mathlib.Core.Bool.{Bool, _&&_, cond}
 use mathlib.Core.List.{List, [], _∷_}
@@ -44,7 +45,8 @@ hucAnswer b = record { code = hucNumber b; truncated = hucTruncated b }
 abbrev pub within : ℕ → Span → Span
 within start p = span (start + p .from) (start + p .to)
 
--- where a component of that image lies in the directory's blob; 'the empty part at the start of the lent blob (the outer one, inside a directory)'
+-- where a component of that image lies in the directory's blob; 'the empty part at the start of the lent blob (the
+-- outer one, inside a directory)'
 unfoldable pub hucPlace : Component → List ℕ → Span
 hucPlace which b =
     cond (eqb (Cpd.number b hucName) 0 && Css.shown which (hucBlob b))

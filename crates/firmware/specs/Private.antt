@@ -1,4 +1,5 @@
--- What the crate's private functions answer, in the definitions of Css, Cpd and Version. No public contract cites these.
+-- What the crate's private functions answer, in the definitions of Css, Cpd and Version. No public contract cites
+-- these.
 use Prim.Native.Nat.{ℕ, _+_, _-_, _*_, _<_, _^_}
 use mathlib.Core.Path.{_≡_}
 use mathlib.Core.Bool.{Bool, false, cond}
@@ -68,8 +69,8 @@ entryJudged b i shared =
     let k : ℕ = then (Cpd.directoryNumber b) (cond (leb (Cpd.count b) i) 20 (cond shared 22 (Cpd.partNumber b i))) in
     placed k false (cond (eqb k 0) (Cpd.entryPart b (Cpd.entryStart b i)) nowhere)
 
--- of count entries from byte start, the first from entry `from` on that has the name, or where there is none the one behind them (from, where that is behind
--- them already)
+-- of count entries from byte start, the first from entry `from` on that has the name, or where there is none the one
+-- behind them (from, where that is behind them already)
 unfoldable pub walked : List ℕ → List ℕ → ℕ → ℕ → ℕ → ℕ
 walked b name start count from = Cpd.firstFrom (λ i. Cpd.agrees b name (start + 24 * i)) from (count - from)
 

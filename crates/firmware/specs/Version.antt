@@ -11,7 +11,8 @@ use Rattle.firmware.specs.declared.version.Version.the-variants as css
 use Rattle.firmware.specs.declared.version.ManifestVersion.{ManifestVersion}
 use Rattle.firmware.specs.declared.version.ManifestVersion.the-variants as manifest
 
--- a reading: 0 with the version's numbers in their order, or the refusal's number; 'a refused version reading no version'
+-- a reading: 0 with the version's numbers in their order, or the refusal's number; 'a refused version reading no
+-- version'
 pub record Reading : Type 0 where
   pub number : ℕ
   pub version : List ℕ

@@ -5,8 +5,9 @@ ghost use Prim.Native.Nat.{_+_, _≤_, _<_, _^_};
 ghost use lib.ListN.{length};
 ghost use Rattle.firmware.specs.Bytes.{wordAt, dwordAt, span, nowhere, placed, PartOf};
 
-// Where a part lies in the lent blob, all of it from one judgement: 0 with the part's first byte and its length, or the number that
-// refuses it with the empty part at the blob's start. An image that is accepted without its modulus and exponent is truncated.
+// Where a part lies in the lent blob, all of it from one judgement: 0 with the part's first byte and its length, or the
+// number that refuses it with the empty part at the blob's start. An image that is accepted without its modulus and
+// exponent is truncated.
 pub struct Located {
     pub code: u32,
     pub truncated: bool,

@@ -41,7 +41,8 @@ pub struct Directory {
     pub count: usize,
 }
 
-// A directory judged: 0 or its number, where its entries start and how many they are, and the bytes that the number asks for.
+// A directory judged: 0 or its number, where its entries start and how many they are, and the bytes that the number
+// asks for.
 pub(crate) struct Table {
     pub code: u32,
     pub start: usize,
@@ -98,8 +99,9 @@ pub(crate) fn read_table(blob: &[u8]) -> Table
     }
 }
 
-// Of `count` entries from byte `start`, the index of the first from entry `from` on whose twelve bytes are the key's; where there is none, an index not below
-// `count`. Each byte of a name is read once: the first eight as one number, which most entries fail, then one after another.
+// Of `count` entries from byte `start`, the index of the first from entry `from` on whose twelve bytes are the key's;
+// where there is none, an index not below `count`. Each byte of a name is read once: the first eight as one number,
+// which most entries fail, then one after another.
 fn walk(blob: &[u8], start: usize, count: usize, from: usize, key: [u8; NAME_BYTES]) -> usize
     requires { ⌜ start + 24 * count ≤ length (now blob) ⌝ }
     ensures { λ r. ⌜ r ≡ walked (now (blob .entry)) key start count from ⌝ }
@@ -125,7 +127,8 @@ fn walk(blob: &[u8], start: usize, count: usize, from: usize, key: [u8; NAME_BYT
     }
 }
 
-// A part of a blob of n bytes, where an entry says that it lies: 22 where another entry shares the name sought, tested before 21.
+// A part of a blob of n bytes, where an entry says that it lies: 22 where another entry shares the name sought, tested
+// before 21.
 fn part_located(n: usize, start: usize, len: usize, shared: bool) -> Located
     requires { ⌜ start + len < 2 ^ 64 ⌝ }
     ensures { λ r. ⌜ r ≡ partJudged n (span start (start + len)) shared ⌝ }
@@ -155,8 +158,8 @@ pub(crate) fn extent_at(blob: &[u8], at: usize) -> Extent
     Extent { start, len }
 }
 
-// Entry i of a judged directory, told whether another entry has the name sought too. The offset and the length that are read are what is
-// judged and handed out.
+// Entry i of a judged directory, told whether another entry has the name sought too. The offset and the length that are
+// read are what is judged and handed out.
 fn entry_located(blob: &[u8], t: Table, i: usize, shared: bool) -> Located
     requires { ⌜ t ≡ tableOf (now blob) ⌝ }
     ensures { λ r. ⌜ r ≡ entryJudged (now (blob .entry)) i shared ⌝ }
@@ -172,8 +175,8 @@ fn entry_located(blob: &[u8], t: Table, i: usize, shared: bool) -> Located
     part_located(blob.len(), x.start, x.len, shared)
 }
 
-// The one judgement of a name sought in a directory: its number, and where its part lies. The second walk goes on behind the entry found, so each entry's
-// name is read at most once.
+// The one judgement of a name sought in a directory: its number, and where its part lies. The second walk goes on
+// behind the entry found, so each entry's name is read at most once.
 pub fn cpd_located(blob: &[u8], name: &[u8]) -> Located
     ensures { λ r. ⌜ r ≡ Cpd.located (now (blob .entry)) (now (name .entry)) ⌝ }
 {
@@ -189,7 +192,8 @@ pub fn cpd_located(blob: &[u8], name: &[u8]) -> Located
     entry_located(blob, t, i, next < count)
 }
 
-// Entry i by its index, for a list of all entries: 20 where there is none. Entries that share a name are told apart by their index; a seek of it is refused.
+// Entry i by its index, for a list of all entries: 20 where there is none. Entries that share a name are told apart by
+// their index; a seek of it is refused.
 pub fn cpd_entry(blob: &[u8], i: usize) -> Located
     ensures { λ r. ⌜ r ≡ Cpd.entryLocated (now (blob .entry)) i ⌝ }
 {

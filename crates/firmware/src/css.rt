@@ -17,8 +17,8 @@ use crate::refusal;
 // 'CSS: at least 128 bytes': what the header has.
 pub(crate) const HEADER_BYTES: usize = 128;
 
-// Where the dwords of the header that are read start: '1 = h (all that is not uCode), 6 = s (all), 7 = k (RSA), 8 = m (modulus), 9 = e (exponent),
-// 16 = version'.
+// Where the dwords of the header that are read start: '1 = h (all that is not uCode), 6 = s (all), 7 = k (RSA), 8 = m
+// (modulus), 9 = e (exponent), 16 = version'.
 const H_AT: usize = 4 * 1;
 
 const S_AT: usize = 4 * 6;
@@ -39,7 +39,8 @@ pub enum Component {
     Exponent,
 }
 
-// What an image is answered: 0 or the number that refuses it, and whether it is accepted without its modulus and exponent.
+// What an image is answered: 0 or the number that refuses it, and whether it is accepted without its modulus and
+// exponent.
 pub struct ImageAnswer {
     pub code: u32,
     pub truncated: bool,
@@ -89,7 +90,8 @@ pub(crate) fn agree(z: Sizes) -> bool
     (summand(z.h) == sum) & (1 <= z.k) & (z.h < z.s)
 }
 
-// A component from byte `from` to byte `to` of an accepted image of n bytes, shown where the bytes that it needs are there.
+// A component from byte `from` to byte `to` of an accepted image of n bytes, shown where the bytes that it needs are
+// there.
 fn component_located(n: usize, needed: usize, truncated: bool, from: usize, to: usize) -> Located
     requires { ⌜ from ≤ to ⌝ }
     ensures { λ r. ⌜ r ≡ placed 0 truncated (cond (leb needed n) (span from to) nowhere) ⌝ }

@@ -1,5 +1,5 @@
-// Bytes needed and bytes there beside each number, for what a crew is told. Each function is one judgement of the lent blob; its number is the one that
-// the calls of css.rt, cpd.rt, huc.rt and version.rt answer.
+// Bytes needed and bytes there beside each number, for what a crew is told. Each function is one judgement of the lent
+// blob; its number is the one that the calls of css.rt, cpd.rt, huc.rt and version.rt answer.
 ghost use mathlib.Core.Path.{_≡_};
 ghost use Prim.Native.Nat.{_<_, _≤_};
 ghost use Rattle.firmware.specs.Cpd;
@@ -16,7 +16,8 @@ use crate::css::read_sizes;
 use crate::refusal;
 use crate::version::MANIFEST_MIN;
 
-// A number with the bytes that it asks for, those that nothing is left out of, and those that are there, counted from the start of the blob or part judged.
+// A number with the bytes that it asks for, those that nothing is left out of, and those that are there, counted from
+// the start of the blob or part judged.
 pub struct Figures {
     pub code: u32,
     pub needed: usize,

@@ -12,8 +12,8 @@ use crate::css::Component;
 use crate::css::ImageAnswer;
 use crate::css::css_located;
 
-// A location in a part that starts at byte `at`, as one in the outer blob. A component that is shown starts past the image's header;
-// one that is not shown stays at the outer blob's start.
+// A location in a part that starts at byte `at`, as one in the outer blob. A component that is shown starts past the
+// image's header; one that is not shown stays at the outer blob's start.
 fn outer(at: usize, l: Located) -> Located
     requires { ⌜ at + l .start < 2 ^ 64 ⌝ }
     ensures { λ r. ⌜ r ≡ outer at l ⌝ }

@@ -1,6 +1,7 @@
-// Firmware files: the parts and versions of CSS images and of HuC code partition directories (CPD).
-// Public are locations, answers, versions and parts, each from one judgement of the lent blob. A part is a sub-slice of that blob, and a location
-// (number, start, length) says where it lies. Nothing about a blob is kept, and no function takes an offset back.
+// Firmware files: the parts and versions of CSS images and of HuC code partition directories (CPD). Public are
+// locations, answers, versions and parts, each from one judgement of the lent blob. A part is a sub-slice of that blob,
+// and a location (number, start, length) says where it lies. Nothing about a blob is kept, and no function takes an
+// offset back.
 mod bytes;
 mod cpd;
 mod css;

@@ -1,5 +1,5 @@
-// The numbers that say no, from 14 on: each with the words of document 01, or of the request that adds it, for when it is given. The names are those of
-// include/guc.h.
+// The numbers that say no, from 14 on: each with the words of document 01, or of the request that adds it, for when it
+// is given. The names are those of include/guc.h.
 
 // 'field too wide, NUM_DWORDS 0, or name to seek not 1 to 12 bytes without a zero'
 pub const BAD_FIELD: u32 = 14;

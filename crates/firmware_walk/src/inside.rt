@@ -16,8 +16,9 @@ use stage::cut;
 use stage::put_dword;
 use stage::put_entry;
 
-// A directory with a manifest of version 9.4.2.0 at byte 68 and an image at byte 112: uCode of 5 dwords, and 1 dword each for
-// RSA, modulus and exponent. The image ends at byte 272; what its entry says of its length is given, and so is h.
+// A directory with a manifest of version 9.4.2.0 at byte 68 and an image at byte 112: uCode of 5 dwords, and 1 dword
+// each for RSA, modulus and exponent. The image ends at byte 272; what its entry says of its length is given, and so is
+// h.
 fn directory(manifest_len: u32, image_len: u32, h: usize) -> Blob {
     let mut blob = stage::blank();
     stage::put_directory(&mut blob, 2, 20);

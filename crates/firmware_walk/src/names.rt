@@ -1,4 +1,5 @@
-// Names in a directory: whole names agree and prefixes do not, a name that two entries have is refused, and names that may not be sought.
+// Names in a directory: whole names agree and prefixes do not, a name that two entries have is refused, and names that
+// may not be sought.
 use crate::directories::found;
 use crate::directories::found_huc;
 use crate::directories::two_entries;
@@ -62,7 +63,8 @@ fn longer_first() {
     found_huc(&blob, 100);
 }
 
-// Two entries of the name, the second at 80 to 84: refused also where they are alike, and before a part that lies beyond the blob.
+// Two entries of the name, the second at 80 to 84: refused also where they are alike, and before a part that lies
+// beyond the blob.
 fn twice(offset: u32, len: u32) {
     let mut blob = with_huc(80, 4);
     put_huc(&mut blob, 20, offset, len);

@@ -37,7 +37,8 @@ fn refused_entries(blob: &[u8], from: usize, count: usize) -> usize {
     refused
 }
 
-// A directory whose entries are good, by the image in huc_fw. Only two-step loading wants that image, so a directory without it is good.
+// A directory whose entries are good, by the image in huc_fw. Only two-step loading wants that image, so a directory
+// without it is good.
 fn image_verdict(blob: &[u8], expect: Expected) -> u32 {
     let f = firmware::huc_figures(blob);
     let code = f.code;
@@ -140,7 +141,8 @@ fn entries(blob: &[u8], count: usize) {
     }
 }
 
-// An entry's name, and its part or why it has none. Each line is that entry's own, also where a seek of its name is refused, for another entry has it too.
+// An entry's name, and its part or why it has none. Each line is that entry's own, also where a seek of its name is
+// refused, for another entry has it too.
 fn entry(blob: &[u8], i: usize) {
     say::one(b"  entry %, ", i as u64);
     say::quoted(trimmed(firmware::cpd_name(blob, i)));

@@ -86,7 +86,8 @@ pub(crate) fn left_out(f: firmware::Figures) {
     say::text(b")\n");
 }
 
-// Which firmware the file's own name says, 'guc' or 'huc' in it: 0 for GuC, 1 for HuC, 2 for neither. The header does not say.
+// Which firmware the file's own name says, 'guc' or 'huc' in it: 0 for GuC, 1 for HuC, 2 for neither. The header does
+// not say.
 pub(crate) fn firmware_named(path: &[u8]) -> usize {
     let mut which = 2;
     for i in 0..path.len() {

@@ -1,4 +1,5 @@
-// Files that are no firmware file that is judged here, named for what they are. The library judges first: what it accepts is never taken for one of these.
+// Files that are no firmware file that is judged here, named for what they are. The library judges first: what it
+// accepts is never taken for one of these.
 ghost use Prim.Native.Nat.{_<_};
 use crate::bytes::byte;
 use crate::bytes::starts;
@@ -48,7 +49,8 @@ pub(crate) fn named(kind: usize) -> u32 {
     verdicts::NOT_JUDGED
 }
 
-// What a file is that the rules for images refuse by that number. One of GuC or HuC starts with the dword 6 (Linux: the CSS module type).
+// What a file is that the rules for images refuse by that number. One of GuC or HuC starts with the dword 6 (Linux: the
+// CSS module type).
 pub(crate) fn of_image(blob: &[u8], code: u32) -> usize {
     if blob.len() == 0 {
         return EMPTY;
@@ -106,8 +108,8 @@ fn wide(b: u8) -> usize
     b as usize
 }
 
-// A GSC image has the offset of Boot1 as the dword at byte 32, and there a partition table that starts AA 55 00 00 (document 02, T-05). Such an offset is
-// small: its highest byte is 0.
+// A GSC image has the offset of Boot1 as the dword at byte 32, and there a partition table that starts AA 55 00 00
+// (document 02, T-05). Such an offset is small: its highest byte is 0.
 fn is_gsc(blob: &[u8]) -> bool {
     let at = wide(byte(blob, 32)) + 0x100 * wide(byte(blob, 33)) + 0x1_0000 * wide(byte(blob, 34));
     if blob.len() < at {

@@ -8,7 +8,8 @@ pub(crate) struct Expected {
     pub numbers: [u64; 4],
 }
 
-// What is asked. `at` is the argument behind the options; `part` and `out` are the arguments with the part's name and the new file's, 0 where none is asked.
+// What is asked. `at` is the argument behind the options; `part` and `out` are the arguments with the part's name and
+// the new file's, 0 where none is asked.
 pub(crate) struct Options {
     pub at: usize,
     pub figures: bool,
@@ -144,7 +145,8 @@ fn all_options(o: Options) -> Options {
     next
 }
 
-// The options of this run. Figures are shown of a single file, and of several where they are asked for; a part is of one file.
+// The options of this run. Figures are shown of a single file, and of several where they are asked for; a part is of
+// one file.
 pub(crate) fn read() -> Options {
     let count = os::arg_count();
     let mut o = all_options(Options {

@@ -17,7 +17,8 @@ pub(crate) fn part(blob: &[u8], name: usize, out: usize) -> u32 {
     written(bytes, out)
 }
 
-// The part of that name: a component of the image, also of the one in a directory, or a directory's entry. Empty where it is not shown.
+// The part of that name: a component of the image, also of the one in a directory, or a directory's entry. Empty where
+// it is not shown.
 fn part_named<'a, 'b>(blob: &'a [u8], name: &'b [u8]) -> &'a [u8] {
     if equal(name, b"ucode") {
         return component(blob, Component::Ucode);
@@ -42,7 +43,8 @@ fn component(blob: &[u8], which: Component) -> &[u8] {
     }
 }
 
-// Writes the bytes to a file that is new: one that is there is never overwritten, and one that is not written whole is removed.
+// Writes the bytes to a file that is new: one that is there is never overwritten, and one that is not written whole is
+// removed.
 fn written(bytes: &[u8], out: usize) -> u32 {
     let mut path = io::buffer();
     let n = os::arg(out, &mut path);

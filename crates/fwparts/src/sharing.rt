@@ -3,8 +3,8 @@
 // At most so many are named; of more it is said how many there are.
 const NAMED_MOST: usize = 8;
 
-// Names entry i where it has the name, as the library says, unless enough are named already; answers how many have it so far. A count of entries does not
-// wrap.
+// Names entry i where it has the name, as the library says, unless enough are named already; answers how many have it
+// so far. A count of entries does not wrap.
 fn name_entry(blob: &[u8], i: usize, name: &[u8], before: usize) -> usize {
     if !firmware::cpd_has_name(blob, i, name) {
         return before;

@@ -1,7 +1,9 @@
-// Names that somebody else chose, of files and of entries: in quotes, and escaped so that none can end its quotes, its line or look like another.
+// Names that somebody else chose, of files and of entries: in quotes, and escaped so that none can end its quotes, its
+// line or look like another.
 use crate::print::text;
 
-// A byte of a name: printable ASCII as it stands, a quote or a backslash behind a backslash, any other by its hexadecimal digits.
+// A byte of a name: printable ASCII as it stands, a quote or a backslash behind a backslash, any other by its
+// hexadecimal digits.
 fn letter(b: u8) {
     if (b < 0x20) | (0x7e < b) {
         text(b"\\x");

@@ -1,5 +1,5 @@
-// What each number means, and each STATUS: the one place of these sentences in the programs. They are the C header's (GUC_NUMBERS), and the gate compares the
-// two (interop/words).
+// What each number means, and each STATUS: the one place of these sentences in the programs. They are the C header's
+// (GUC_NUMBERS), and the gate compares the two (interop/words).
 use crate::print::one;
 use crate::print::piece;
 use crate::print::text;

@@ -36,4 +36,14 @@ returns-3 c =
     has-alone _ n (at-table .read-table .ensures) _ named (c .before .if2 .left) _ k (c .walk .ensures)
 
 pub cpd-has-name-spec : {M : Type 1} → statement M
-cpd-has-name-spec = tie.close (tie.spec (λ c κs. search needs) (λ c κs. search needs) returns (λ c κs. search needs) returns-2 (λ c. search needs) walk-requires returns-3)
+cpd-has-name-spec =
+    tie.close
+    (tie.spec
+    (λ c κs. search needs)
+    (λ c κs. search needs)
+    returns
+    (λ c κs. search needs)
+    returns-2
+    (λ c. search needs)
+    walk-requires
+    returns-3)

@@ -1,4 +1,5 @@
--- `cpd::cpd_located` meets its contract: two walks, the second from behind the entry that the first has found. Assumes nothing.
+-- `cpd::cpd_located` meets its contract: two walks, the second from behind the entry that the first has found. Assumes
+-- nothing.
 use mathlib.Core.Path.{refl, sym, _∙_}
 use lib.Dec.{ltb}
 use borrow.Author.Tests.{ltb-false, ltb-true, not-false}
@@ -46,4 +47,16 @@ returns-2 c =
     (λ u. rw u at (c .entry-located .ensures) ∙ once (ltb-false next (t .count) u))
 
 pub cpd-located-spec : {M : Type 1} → statement M
-cpd-located-spec = tie.close (tie.spec (λ c κs. search needs) (λ c κs. search needs) (λ c κs. search needs) returns (λ c κs. search needs) walk-requires add-behind walk-requires-2 (λ c κs. search needs) returns-2)
+cpd-located-spec =
+    tie.close
+    (tie.spec
+    (λ c κs. search needs)
+    (λ c κs. search needs)
+    (λ c κs. search needs)
+    returns
+    (λ c κs. search needs)
+    walk-requires
+    add-behind
+    walk-requires-2
+    (λ c κs. search needs)
+    returns-2)

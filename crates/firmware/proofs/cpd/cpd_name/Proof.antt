@@ -25,4 +25,18 @@ returns-2 : tie.Need-returns-2
 returns-2 c = rw (name-there _ _ (c .before .before .before .before .read-table .ensures) (c .before .before .if1 .left)) (search needs)
 
 pub cpd-name-spec : {M : Type 1} → statement M
-cpd-name-spec = tie.close (tie.spec (λ c κs. search needs) (λ c. search needs) (λ c. search needs) (λ c. search needs) returns mul-from add-from add-to (λ c. search needs) (λ c. search needs) part-result-end-2 returns-2)
+cpd-name-spec =
+    tie.close
+    (tie.spec
+    (λ c κs. search needs)
+    (λ c. search needs)
+    (λ c. search needs)
+    (λ c. search needs)
+    returns
+    mul-from
+    add-from
+    add-to
+    (λ c. search needs)
+    (λ c. search needs)
+    part-result-end-2
+    returns-2)

@@ -9,4 +9,11 @@ unfolding Cpd.hasMarker
 returns c = search needs
 
 pub has-marker-spec : {M : Type 1} → statement M
-has-marker-spec = tie.close (tie.spec (λ c. search needs) (λ c. search needs) (λ c. search needs) (λ c. search needs) returns)
+has-marker-spec =
+    tie.close
+    (tie.spec
+    (λ c. search needs)
+    (λ c. search needs)
+    (λ c. search needs)
+    (λ c. search needs)
+    returns)

@@ -1,4 +1,5 @@
--- `cpd::part_located` meets its contract: by whether the name is shared, then by whether the part lies beyond. Assumes nothing.
+-- `cpd::part_located` meets its contract: by whether the name is shared, then by whether the part lies beyond. Assumes
+-- nothing.
 use Prim.Native.Nat.{_+_, _-_}
 use mathlib.Core.Path.{_≡_, sym, _∙_}
 use mathlib.Core.Bool.{Bool, true, false}
@@ -36,4 +37,12 @@ returns-3 c =
     (λ t. simp (t, le-ltb (a .n) (a .start + a .len) (c .if2 .left), d))
 
 pub part-located-spec : {M : Type 1} → statement M
-part-located-spec = tie.close (tie.spec (λ c. search needs) (λ c κs. search needs) returns (λ c κs. search needs) returns-2 returns-3)
+part-located-spec =
+    tie.close
+    (tie.spec
+    (λ c. search needs)
+    (λ c κs. search needs)
+    returns
+    (λ c κs. search needs)
+    returns-2
+    returns-3)

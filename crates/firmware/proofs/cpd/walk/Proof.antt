@@ -1,4 +1,5 @@
--- `cpd::walk` meets its contract: the first entry that agrees is not before the one that the walk has come to. Assumes nothing.
+-- `cpd::walk` meets its contract: the first entry that agrees is not before the one that the walk has come to. Assumes
+-- nothing.
 use Prim.Native.Nat.{ℕ, _≤_, _<_, _-_, _+_, _*_}
 use mathlib.Core.Path.{_≡_, refl, sym, _∙_}
 use mathlib.Core.Bool.{true}
@@ -84,4 +85,30 @@ returns-2 c =
     at-loop .loop .inv .0 ∙ finds _ _ (at-entries .entries .i) (at-loop .before .before .before .if1 .left) (rw e at (at-loop .loop .inv .3)) (at-entries .entries .inv)
 
 pub walk-spec : {M : Type 1} → statement M
-walk-spec = tie.close (tie.spec Inv-loop μ-loop Inv-entries μ-entries (λ c κs. search needs) entries-holds (λ c. search needs) (λ c. search needs) (λ c κs. search needs) (λ c. search needs) (λ c. search needs) entries-again loop-holds (λ c. search needs) (λ c. search needs) (λ c. search needs) (λ c. search needs) (λ c. search needs) entries-again-2 (λ c. search needs) (λ c. search needs) loop-again returns returns-2)
+walk-spec =
+    tie.close
+    (tie.spec
+    Inv-loop
+    μ-loop
+    Inv-entries
+    μ-entries
+    (λ c κs. search needs)
+    entries-holds
+    (λ c. search needs)
+    (λ c. search needs)
+    (λ c κs. search needs)
+    (λ c. search needs)
+    (λ c. search needs)
+    entries-again
+    loop-holds
+    (λ c. search needs)
+    (λ c. search needs)
+    (λ c. search needs)
+    (λ c. search needs)
+    (λ c. search needs)
+    entries-again-2
+    (λ c. search needs)
+    (λ c. search needs)
+    loop-again
+    returns
+    returns-2)

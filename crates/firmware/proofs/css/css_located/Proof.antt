@@ -12,4 +12,11 @@ returns-2 : tie.Need-returns-2
 returns-2 c = c .judge .ensures _ refl (sym (c .before .read-sizes .ensures .0))
 
 pub css-located-spec : {M : Type 1} → statement M
-css-located-spec = tie.close (tie.spec (λ c κs. search needs) returns (λ c κs. search needs) (λ c κs. search needs) returns-2)
+css-located-spec =
+    tie.close
+    (tie.spec
+    (λ c κs. search needs)
+    returns
+    (λ c κs. search needs)
+    (λ c κs. search needs)
+    returns-2)

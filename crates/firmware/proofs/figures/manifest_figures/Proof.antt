@@ -13,4 +13,11 @@ returns-2 c = c .measured .ensures ∙ manifest-measured _ (c .before .before .b
 
 pub manifest-figures-spec : {M : Type 1} → statement M
 manifest-figures-spec =
-    tie.close (tie.spec (λ c. search needs) (λ c κs. search needs) (λ c κs. search needs) returns (λ c κs. search needs) returns-2)
+    tie.close
+    (tie.spec
+    (λ c. search needs)
+    (λ c κs. search needs)
+    (λ c κs. search needs)
+    returns
+    (λ c κs. search needs)
+    returns-2)

@@ -33,4 +33,16 @@ returns-2 : tie.Need-returns-2
 returns-2 c = c .outer .ensures ∙ huc-found _ _ (c .before .before .before .before .before .before .cpd-located .ensures) (c .before .before .before .before .if1 .left) (c .before .css-located .ensures)
 
 pub huc-located-spec : {M : Type 1} → statement M
-huc-located-spec = tie.close (tie.spec (λ c. search needs) (λ c κs. search needs) returns add-end (λ c. search needs) (λ c. search needs) part-css-located-end (λ c κs. search needs) outer-requires returns-2)
+huc-located-spec =
+    tie.close
+    (tie.spec
+    (λ c. search needs)
+    (λ c κs. search needs)
+    returns
+    add-end
+    (λ c. search needs)
+    (λ c. search needs)
+    part-css-located-end
+    (λ c κs. search needs)
+    outer-requires
+    returns-2)

@@ -10,4 +10,12 @@ unfolding frontAt
 returns c = omega (arith, c .before .dword-at .ensures .0, c .dword-at2 .ensures .0, c .dword-at2 .ensures .1)
 
 pub front-at-spec : {M : Type 1} → statement M
-front-at-spec = tie.close (tie.spec (λ c κs. search needs) (λ c. search needs) (λ c κs. search needs) (λ c. search needs) (λ c. search needs) returns)
+front-at-spec =
+    tie.close
+    (tie.spec
+    (λ c κs. search needs)
+    (λ c. search needs)
+    (λ c κs. search needs)
+    (λ c. search needs)
+    (λ c. search needs)
+    returns)

@@ -59,4 +59,17 @@ returns-4 c name l h =
     simp (l, le-leb _ _ (at-loop .before .before .if1 .left), le-leb _ _ (at-loop .before .if2 .left), same, seen)
 
 pub is-name-spec : {M : Type 1} → statement M
-is-name-spec = tie.close (tie.spec Inv-loop μ-loop returns returns-2 loop-holds (λ c. search needs) returns-3 (λ c. search needs) (λ c. search needs) loop-again returns-4)
+is-name-spec =
+    tie.close
+    (tie.spec
+    Inv-loop
+    μ-loop
+    returns
+    returns-2
+    loop-holds
+    (λ c. search needs)
+    returns-3
+    (λ c. search needs)
+    (λ c. search needs)
+    loop-again
+    returns-4)

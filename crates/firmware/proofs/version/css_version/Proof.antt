@@ -20,4 +20,13 @@ unfolding ofVersion cssReading reading
 returns-2 c = simp (located-code _ _ _ (c .before .before .css-located .ensures), c .before .if1 .left, ← c .dword-at .ensures .0)
 
 pub css-version-spec : {M : Type 1} → statement M
-css-version-spec = tie.close (tie.spec (λ c κs. search needs) returns dword-at-requires (λ c. search needs) (λ c. search needs) (λ c. search needs) returns-2)
+css-version-spec =
+    tie.close
+    (tie.spec
+    (λ c κs. search needs)
+    returns
+    dword-at-requires
+    (λ c. search needs)
+    (λ c. search needs)
+    (λ c. search needs)
+    returns-2)

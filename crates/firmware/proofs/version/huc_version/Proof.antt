@@ -26,4 +26,15 @@ returns-2 c =
     simp (located-code _ _ _ found, eq-eqb _ _ (c .before .before .before .if1 .left)) (rw (found-bytes _ _ found) at (c .css-version .ensures))
 
 pub huc-version-spec : {M : Type 1} → statement M
-huc-version-spec = tie.close (tie.spec (λ c. search needs) (λ c κs. search needs) returns add-end (λ c. search needs) (λ c. search needs) part-css-version-end (λ c κs. search needs) returns-2)
+huc-version-spec =
+    tie.close
+    (tie.spec
+    (λ c. search needs)
+    (λ c κs. search needs)
+    returns
+    add-end
+    (λ c. search needs)
+    (λ c. search needs)
+    part-css-version-end
+    (λ c κs. search needs)
+    returns-2)

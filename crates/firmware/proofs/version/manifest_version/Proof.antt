@@ -31,4 +31,15 @@ returns-2 c =
     simp (located-code _ _ _ found, eq-eqb code 0 (omega (arith, c .before .before .before .if1 .left))) (rw (found-bytes _ _ found) at (c .version-in .ensures))
 
 pub manifest-version-spec : {M : Type 1} → statement M
-manifest-version-spec = tie.close (tie.spec (λ c. search needs) (λ c κs. search needs) returns add-end (λ c. search needs) (λ c. search needs) part-version-in-end (λ c κs. search needs) returns-2)
+manifest-version-spec =
+    tie.close
+    (tie.spec
+    (λ c. search needs)
+    (λ c κs. search needs)
+    returns
+    add-end
+    (λ c. search needs)
+    (λ c. search needs)
+    part-version-in-end
+    (λ c κs. search needs)
+    returns-2)

@@ -15,4 +15,12 @@ unfolding ofManifest manifestIn reading
 returns-2 c = simp (le-ltb _ _ (c .before .before .before .before .if1 .left)) (cc)
 
 pub version-in-spec : {M : Type 1} → statement M
-version-in-spec = tie.close (tie.spec returns (λ c κs. search needs) (λ c κs. search needs) (λ c κs. search needs) (λ c κs. search needs) returns-2)
+version-in-spec =
+    tie.close
+    (tie.spec
+    returns
+    (λ c κs. search needs)
+    (λ c κs. search needs)
+    (λ c κs. search needs)
+    (λ c κs. search needs)
+    returns-2)

@@ -1,4 +1,5 @@
--- `channels::receive_publish` meets its contract: it is the receiver's own call, on the parts of the channel. Assumes nothing.
+-- `channels::receive_publish` meets its contract: it is the receiver's own call, on the parts of the channel. Assumes
+-- nothing.
 use mathlib.Core.Path.{_∙_}
 use borrow.Author.Needs.{needs}
 use Rattle.stage.proofs.channels.receive_publish.Statement.{statement}

@@ -1,4 +1,5 @@
--- `channels::send_publish` meets its contract: it is the sender's own call, on the parts of the channel. Assumes nothing.
+-- `channels::send_publish` meets its contract: it is the sender's own call, on the parts of the channel. Assumes
+-- nothing.
 use mathlib.Core.Path.{_∙_}
 use borrow.Author.Needs.{needs}
 use Rattle.stage.proofs.channels.send_publish.Statement.{statement}

@@ -1,4 +1,5 @@
--- `files::put_image` meets its contract: it is laid in the part that starts at `at`, where there is one. Assumes nothing.
+-- `files::put_image` meets its contract: it is laid in the part that starts at `at`, where there is one. Assumes
+-- nothing.
 use Rattle.stage.proofs.Laws.{from-part, from-none}
 use borrow.Author.Needs.{needs}
 use Rattle.stage.proofs.files.put_image.Statement.{statement}
