@@ -21,7 +21,9 @@ count-none p i (suc n) h =
     let g : i + suc n ≤ firstFrom p (suc i) n = rw t at h in
     rw t (omega (arith, count-none p (suc i) n (omega arith))))
 
-pub count-met : (p : ℕ → Bool) (i n f : ℕ) → f ≡ firstFrom p i n → f < i + n → countFrom p i n ≡ 1 + countFrom p (f + 1) (i + n - (f + 1))
+pub count-met :
+    (p : ℕ → Bool) (i n f : ℕ) → f ≡ firstFrom p i n → f < i + n
+    → countFrom p i n ≡ 1 + countFrom p (f + 1) (i + n - (f + 1))
 unfolding firstFrom countFrom
 count-met p i zero f e l = absurd (omega (arith, e))
 count-met p i (suc n) f e l =

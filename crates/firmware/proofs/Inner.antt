@@ -18,7 +18,9 @@ use Rattle.firmware.proofs.Nowhere.{name-nowhere}
 use Rattle.firmware.proofs.Lies.{cpd-lies, located-span, shown-beyond}
 
 -- a place in the image, told by the code from where it starts, is the one that is shown
-chosen : (at n : ℕ) (t s : Bool) (p : Span) → (s ≡ true → 128 ≤ p .from) → outer at (placed n t (cond s p nowhere)) ≡ placed n t (cond s (within at p) nowhere)
+chosen :
+    (at n : ℕ) (t s : Bool) (p : Span) → (s ≡ true → 128 ≤ p .from)
+    → outer at (placed n t (cond s p nowhere)) ≡ placed n t (cond s (within at p) nowhere)
 unfolding outer
 chosen at n t true p h =
     let l : 128 ≤ p .from = h refl in
@@ -27,12 +29,19 @@ chosen at n t true p h =
     simp (away, d)
 chosen at n t false p h = refl
 
-outer-located : (at : ℕ) (which : Component) (i : List ℕ) → outer at (Css.located which i) ≡ placed (Css.number i) (Css.truncated i) (cond (Css.shown which i) (within at (Css.spanOf which (Css.sizes i))) nowhere)
+outer-located :
+    (at : ℕ) (which : Component) (i : List ℕ)
+    → outer at (Css.located which i)
+    ≡ placed (Css.number i) (Css.truncated i) (cond (Css.shown which i) (within at (Css.spanOf which (Css.sizes i))) nowhere)
 unfolding Css.place
-outer-located at which i = chosen at (Css.number i) (Css.truncated i) (Css.shown which i) (Css.spanOf which (Css.sizes i)) (λ e. shown-beyond i which e .after)
+outer-located at which i =
+    chosen at (Css.number i) (Css.truncated i) (Css.shown which i) (Css.spanOf which (Css.sizes i))
+    (λ e. shown-beyond i which e .after)
 
 -- the bytes of a part that is found
-pub found-bytes : (b name : List ℕ) {f : Located} → f ≡ Cpd.located b name → bytes b (span (f .start) (f .start + f .len)) ≡ partNamed b name
+pub found-bytes :
+    (b name : List ℕ) {f : Located} → f ≡ Cpd.located b name
+    → bytes b (span (f .start) (f .start + f .len)) ≡ partNamed b name
 found-bytes b name e = ap (bytes b) (located-span (length b) (Cpd.place b name) (cpd-lies b name) (Cpd.number b name) false e)
 
 -- what is found under `huc_fw`
@@ -44,10 +53,13 @@ module _ (b : List ℕ) (which : Component) {f : Located} (e : f ≡ Cpd.located
       let place : Cpd.place b hucName ≡ nowhere = name-nowhere b hucName number in
       e ∙ simp (number, place)
 
-  pub huc-found : {l : Located} → f .code ≡ 0 → l ≡ Css.located which (bytes b (span (f .start) (f .start + f .len))) → outer (f .start) l ≡ hucLocated which b
+  pub huc-found :
+      {l : Located} → f .code ≡ 0 → l ≡ Css.located which (bytes b (span (f .start) (f .start + f .len)))
+      → outer (f .start) l ≡ hucLocated which b
   unfolding hucNumber hucTruncated hucPlace
   huc-found {l} z q =
-      let number : eqb (Cpd.number b hucName) 0 ≡ true = eq-eqb (Cpd.number b hucName) 0 (sym (ap (λ (x : Located). x .code) e) ∙ z) in
+      let number : eqb (Cpd.number b hucName) 0 ≡ true =
+      eq-eqb (Cpd.number b hucName) 0 (sym (ap (λ (x : Located). x .code) e) ∙ z) in
       let inner : l ≡ Css.located which (hucBlob b) = rw (found-bytes b hucName e) at q in
       let starts : f .start ≡ Cpd.place b hucName .from = ap (λ (x : Located). x .start) e in
       rw (inner, starts) (outer-located (Cpd.place b hucName .from) which (hucBlob b) ∙ simp number)

@@ -70,7 +70,9 @@ module _ (b : List ℕ) (n : ℕ) (z : Sizes) (l : length b ≡ n) (s : Css.size
       unfolding Css.number
       number = simp (l, s, le-ltb n 128 h, a, le-ltb n (modulus z) g)
 
-      shown : (which : Component) (needed : ℕ) (p : Span) → Css.shown which b ≡ leb needed n → Css.spanOf which z ≡ p → Css.located which b ≡ handed n z needed p
+      shown :
+          (which : Component) (needed : ℕ) (p : Span) → Css.shown which b ≡ leb needed n → Css.spanOf which z ≡ p
+          → Css.located which b ≡ handed n z needed p
       unfolding Css.truncated Css.place
       shown which needed p q e = simp (number, q, l, s, e, fewer n (4 * z .s) (leb (4 * z .s) n) refl)
 
@@ -91,10 +93,14 @@ module _ (b : List ℕ) (n : ℕ) (z : Sizes) (l : length b ≡ n) (s : Css.size
         unfolding Css.shown Css.spanOf
         rsa-handed f g h = shown Rsa needed (span from to) (front-shown needed f) (rw (g, h))
 
-        pub modulus-handed : needed ≡ 4 * z .s → from ≡ modulus z → to ≡ exponent z → Css.located Modulus b ≡ handed n z needed (span from to)
+        pub modulus-handed :
+            needed ≡ 4 * z .s → from ≡ modulus z → to ≡ exponent z
+            → Css.located Modulus b ≡ handed n z needed (span from to)
         unfolding Css.shown Css.spanOf
         modulus-handed f g h = shown Modulus needed (span from to) (back-shown needed f) (rw (g, h))
 
-        pub exponent-handed : needed ≡ 4 * z .s → from ≡ exponent z → to ≡ exponent z + 4 * z .e → Css.located Exponent b ≡ handed n z needed (span from to)
+        pub exponent-handed :
+            needed ≡ 4 * z .s → from ≡ exponent z → to ≡ exponent z + 4 * z .e
+            → Css.located Exponent b ≡ handed n z needed (span from to)
         unfolding Css.shown Css.spanOf
         exponent-handed f g h = shown Exponent needed (span from to) (back-shown needed f) (rw (g, h))

@@ -74,7 +74,8 @@ pub record Beyond (n : ℕ) (p : Span) : Type 0 where
   pub after : 128 ≤ p .from
   pub lies : Lies n p
 
-pub shown-beyond : (b : List ℕ) (which : Component) → Css.shown which b ≡ true → Beyond (length b) (Css.spanOf which (Css.sizes b))
+pub shown-beyond :
+    (b : List ℕ) (which : Component) → Css.shown which b ≡ true → Beyond (length b) (Css.spanOf which (Css.sizes b))
 unfolding Css.shown Css.spanOf
 shown-beyond b Ucode e = let a = css-accepted b (eqb-true (Css.number b) 0 e) in omega arith
 shown-beyond b Rsa e = let a = css-accepted b (eqb-true (Css.number b) 0 e) in omega arith
@@ -111,7 +112,9 @@ room false x y n h = omega arith
 
 table-lies : (b : List ℕ) → tableOf b .start + 24 * tableOf b .count ≤ length b
 unfolding tableOf
-table-lies b = room (eqb (Cpd.directoryNumber b) 0) (Cpd.headerLength b) (Cpd.count b) (length b) (λ e. entries-there b (eqb-true (Cpd.directoryNumber b) 0 e))
+table-lies b =
+    room (eqb (Cpd.directoryNumber b) 0) (Cpd.headerLength b) (Cpd.count b) (length b)
+    (λ e. entries-there b (eqb-true (Cpd.directoryNumber b) 0 e))
 
 pub table-room : (b : List ℕ) {t : Table} → t ≡ tableOf b → t .start + 24 * t .count ≤ length b
 table-room b e = rw e (table-lies b)
@@ -151,7 +154,8 @@ huc-lies b which =
     let outside : Lies (length b) p = cpd-lies b hucName in
     either (Lies (length b)) (eqb (Cpd.number b hucName) 0 && Css.shown which (hucBlob b)) _ _
     (λ e.
-    let inside : Lies (length (hucBlob b)) q = shown-beyond (hucBlob b) which (both (eqb (Cpd.number b hucName) 0) (Css.shown which (hucBlob b)) e .1) .lies in
+    let inside : Lies (length (hucBlob b)) q =
+    shown-beyond (hucBlob b) which (both (eqb (Cpd.number b hucName) 0) (Css.shown which (hucBlob b)) e .1) .lies in
     let n : length (hucBlob b) ≡ p .to - p .from = length-bytes b p outside in
     omega arith)
     (λ _. omega arith)

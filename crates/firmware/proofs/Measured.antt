@@ -116,7 +116,9 @@ module _ (b : List ℕ) {f : Located} (e : f ≡ Cpd.located b hucName) where
   unfolding hucFigures
   huc-refused z = simp (not-sought b hucName e z) (rw e)
 
-  pub huc-measured : f .code ≡ 0 → {r : Figures} → r ≡ imageFigures (bytes b (span (f .start) (f .start + f .len))) → r ≡ hucFigures b
+  pub huc-measured :
+      f .code ≡ 0 → {r : Figures} → r ≡ imageFigures (bytes b (span (f .start) (f .start + f .len)))
+      → r ≡ hucFigures b
   unfolding hucFigures
   huc-measured z q = simp (sought b hucName e z) (rw (found-bytes b hucName e) at q)
 

@@ -13,7 +13,9 @@ use Rattle.firmware.specs.Private.{Keyed, frontAt, walked}
 use Rattle.firmware.proofs.Search.{all-holds, all-same, first-same}
 
 -- a walk for a key is the walk for its name
-pub keyed-walked : (b name key : List ℕ) (start count from : ℕ) → Keyed name key → walked b key start count from ≡ walked b name start count from
+pub keyed-walked :
+    (b name key : List ℕ) (start count from : ℕ) → Keyed name key
+    → walked b key start count from ≡ walked b name start count from
 unfolding walked
 keyed-walked b name key start count from h =
     first-same _ _ from (count - from) (λ i. all-same _ _ 12 (λ j l. ap (eqb (getD b (start + 24 * i + j) 0)) (h j l)))
@@ -28,7 +30,8 @@ module _ (b key : List ℕ) (at : ℕ) where
   front-same e =
       let z : at + 0 ≡ at = omega arith in
       let first : getD b at 0 ≡ getD key 0 0 = rw z at (byte-same 0 (omega arith) e) in
-      let next : (j k : ℕ) → at + 4 + j ≡ at + k → k < 12 → getD b (at + 4 + j) 0 ≡ getD key k 0 = λ j k q l. rw q (byte-same k l e) in
+      let next : (j k : ℕ) → at + 4 + j ≡ at + k → k < 12 → getD b (at + 4 + j) 0 ≡ getD key k 0 =
+      λ j k q l. rw q (byte-same k l e) in
       rw (
         first,
         byte-same 1 (omega arith) e,
@@ -70,11 +73,15 @@ module _ (b key : List ℕ) (at : ℕ) (hb : (j : ℕ) → getD b j 0 < 256) (hk
       let z₅ : at + 4 + 1 ≡ at + 5 = omega arith in
       let z₆ : at + 4 + 2 ≡ at + 6 = omega arith in
       let z₇ : at + 4 + 3 ≡ at + 7 = omega arith in
-      let small : number (getD b at 0) (getD b (at + 1) 0) (getD b (at + 2) 0) (getD b (at + 3) 0) < 2 ^ 32 = number-small _ _ _ _ (hb at) (hb (at + 1)) (hb (at + 2)) (hb (at + 3)) in
-      let small-key : number (getD key 0 0) (getD key 1 0) (getD key 2 0) (getD key 3 0) < 2 ^ 32 = number-small _ _ _ _ (hk 0) (hk 1) (hk 2) (hk 3) in
+      let small : number (getD b at 0) (getD b (at + 1) 0) (getD b (at + 2) 0) (getD b (at + 3) 0) < 2 ^ 32 =
+      number-small _ _ _ _ (hb at) (hb (at + 1)) (hb (at + 2)) (hb (at + 3)) in
+      let small-key : number (getD key 0 0) (getD key 1 0) (getD key 2 0) (getD key 3 0) < 2 ^ 32 =
+      number-small _ _ _ _ (hk 0) (hk 1) (hk 2) (hk 3) in
       let halves = two _ _ _ _ small small-key e in
       let f = four _ _ _ _ _ _ _ _ (hb at) (hb (at + 1)) (hb (at + 2)) (hb (at + 3)) (hk 0) (hk 1) (hk 2) (hk 3) (halves .0) in
-      let g = four _ _ _ _ _ _ _ _ (hb (at + 4)) (hb (at + 4 + 1)) (hb (at + 4 + 2)) (hb (at + 4 + 3)) (hk 4) (hk 5) (hk 6) (hk 7) (halves .1) in
+      let g =
+      four _ _ _ _ _ _ _ _ (hb (at + 4)) (hb (at + 4 + 1)) (hb (at + 4 + 2)) (hb (at + 4 + 3)) (hk 4) (hk 5) (hk 6)
+      (hk 7) (halves .1) in
       simp (
         z,
         ← z₅,

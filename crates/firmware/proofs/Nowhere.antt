@@ -19,7 +19,9 @@ not-shown b Rsa e = e
 not-shown b Modulus e = rw e
 not-shown b Exponent e = rw e
 
-pub image-nowhere : (b : List ℕ) (which : Component) → Css.isImage b ≡ false → Css.located which b ≡ placed (Css.number b) false nowhere
+pub image-nowhere :
+    (b : List ℕ) (which : Component) → Css.isImage b ≡ false
+    → Css.located which b ≡ placed (Css.number b) false nowhere
 unfolding Css.place Css.truncated
 image-nowhere b which e = rw (not-shown b which e, e)
 
@@ -33,11 +35,15 @@ unfolding Cpd.place
 name-nowhere b name e = rw e
 
 -- a component of the image in `huc_fw`, where the directory refuses, and where the image does
-pub huc-outside-nowhere : (b : List ℕ) (which : Component) → eqb (Cpd.number b hucName) 0 ≡ false → hucLocated which b ≡ placed (Cpd.number b hucName) false nowhere
+pub huc-outside-nowhere :
+    (b : List ℕ) (which : Component) → eqb (Cpd.number b hucName) 0 ≡ false
+    → hucLocated which b ≡ placed (Cpd.number b hucName) false nowhere
 unfolding hucNumber hucTruncated hucPlace
 huc-outside-nowhere b which e = rw e
 
-pub huc-nowhere : (b : List ℕ) (which : Component) → eqb (hucNumber b) 0 ≡ false → hucLocated which b ≡ placed (hucNumber b) false nowhere
+pub huc-nowhere :
+    (b : List ℕ) (which : Component) → eqb (hucNumber b) 0 ≡ false
+    → hucLocated which b ≡ placed (hucNumber b) false nowhere
 unfolding hucNumber hucTruncated hucPlace Css.truncated
 huc-nowhere b which e = go (eqb (Cpd.number b hucName) 0) refl
   where

@@ -31,16 +31,22 @@ module _ (b : List ℕ) {t : Table} (e : t ≡ tableOf b) where
   table-count z = let d : eqb (Cpd.directoryNumber b) 0 ≡ true = eq-eqb (Cpd.directoryNumber b) 0 (table-code ∙ z) in rw (e, d)
 
 -- an entry of a directory that is refused
-entry-refused : (b : List ℕ) (i : ℕ) (shared : Bool) → eqb (Cpd.directoryNumber b) 0 ≡ false → entryJudged b i shared ≡ placed (Cpd.directoryNumber b) false nowhere
+entry-refused :
+    (b : List ℕ) (i : ℕ) (shared : Bool) → eqb (Cpd.directoryNumber b) 0 ≡ false
+    → entryJudged b i shared ≡ placed (Cpd.directoryNumber b) false nowhere
 unfolding entryJudged
 entry-refused b i shared e = simp e
 
 -- and a name in it
-name-refused : (b name : List ℕ) → Cpd.isName name ≡ true → eqb (Cpd.directoryNumber b) 0 ≡ false → Cpd.located b name ≡ placed (Cpd.directoryNumber b) false nowhere
+name-refused :
+    (b name : List ℕ) → Cpd.isName name ≡ true → eqb (Cpd.directoryNumber b) 0 ≡ false
+    → Cpd.located b name ≡ placed (Cpd.directoryNumber b) false nowhere
 unfolding Cpd.number Cpd.place
 name-refused b name n e = simp (n, e)
 
-pub entry-own : (b : List ℕ) {t : Table} (e : t ≡ tableOf b) (i : ℕ) (shared : Bool) → (t .code ≡ 0 → ⊥) → entryJudged b i shared ≡ placed (t .code) false nowhere
+pub entry-own :
+    (b : List ℕ) {t : Table} (e : t ≡ tableOf b) (i : ℕ) (shared : Bool) → (t .code ≡ 0 → ⊥)
+    → entryJudged b i shared ≡ placed (t .code) false nowhere
 entry-own b e i shared z =
     let d = table-code b e in
     entry-refused b i shared (ne-eqb (Cpd.directoryNumber b) 0 (λ q. z (sym d ∙ q))) ∙ rw d
@@ -54,14 +60,18 @@ module _ (b : List ℕ) {t : Table} (e : t ≡ tableOf b) (z : t .code ≡ 0) (i
   unfolding entryJudged
   entry-none l = simp (own, table-count b e z, le-leb (t .count) i l)
 
-  pub entry-part : i < t .count → (start len : ℕ) → start ≡ Cpd.offset b (t .start + 24 * i) → len ≡ Cpd.size b (t .start + 24 * i) → entryJudged b i shared ≡ partJudged (length b) (span start (start + len)) shared
+  pub entry-part :
+      i < t .count → (start len : ℕ) → start ≡ Cpd.offset b (t .start + 24 * i) → len ≡ Cpd.size b (t .start + 24 * i)
+      → entryJudged b i shared ≡ partJudged (length b) (span start (start + len)) shared
   unfolding entryJudged partJudged
   entry-part l start len o s = simp (own, table-count b e z, table-start b e z, lt-leb (t .count) i l, ← o, ← s)
 
 -- the walks for a name that may be sought
 module _ (b name key : List ℕ) {t : Table} (h : Keyed name key) (n : Cpd.isName name ≡ true) (e : t ≡ tableOf b) where
   -- in a directory that is accepted they are over its entries
-  walked-entries : eqb (Cpd.directoryNumber b) 0 ≡ true → (from : ℕ) → walked b key (t .start) (t .count) from ≡ Cpd.firstFrom (Cpd.hasName b name) from (Cpd.count b - from)
+  walked-entries :
+      eqb (Cpd.directoryNumber b) 0 ≡ true → (from : ℕ)
+      → walked b key (t .start) (t .count) from ≡ Cpd.firstFrom (Cpd.hasName b name) from (Cpd.count b - from)
   unfolding tableOf walked
   walked-entries d from = keyed-walked b name key (t .start) (t .count) from h ∙ rw (e, d)
 
@@ -81,7 +91,9 @@ module _ (b name key : List ℕ) {t : Table} (h : Keyed name key) (n : Cpd.isNam
     unfolding Cpd.firstEntry
     first-is d = let z : Cpd.count b - 0 ≡ Cpd.count b = omega arith in w ∙ walked-entries d 0 ∙ rw z
 
-    by-number : (d : Bool) → eqb (Cpd.directoryNumber b) 0 ≡ d → t .count ≤ i → (shared : Bool) → entryJudged b i shared ≡ Cpd.located b name
+    by-number :
+        (d : Bool) → eqb (Cpd.directoryNumber b) 0 ≡ d → t .count ≤ i → (shared : Bool)
+        → entryJudged b i shared ≡ Cpd.located b name
     unfolding entryJudged Cpd.number Cpd.place Cpd.entriesNamed Cpd.firstEntry
     by-number true d l shared =
         let f : i ≡ Cpd.firstEntry b name = first-is d in
@@ -119,15 +131,19 @@ module _ (b name key : List ℕ) {t : Table} (h : Keyed name key) (n : Cpd.isNam
       unfolding entryJudged Cpd.number Cpd.place
       named-once g =
           let z : Cpd.countFrom (Cpd.hasName b name) (i + 1) (Cpd.count b - (i + 1)) ≡ 0
-          = count-none (Cpd.hasName b name) (i + 1) (Cpd.count b - (i + 1)) (omega (arith, next-is, found, entries-are accepted)) in
+          = count-none (Cpd.hasName b name) (i + 1) (Cpd.count b - (i + 1))
+          (omega (arith, next-is, found, entries-are accepted)) in
           let one : Cpd.entriesNamed b name ≡ 1 = omega (arith, named, z) in
           simp (n, accepted, one, there, ← first-is accepted)
 
       named-again : next < t .count → entryJudged b i true ≡ Cpd.located b name
       unfolding entryJudged Cpd.number Cpd.place
       named-again g =
-          let more = count-met (Cpd.hasName b name) (i + 1) (Cpd.count b - (i + 1)) next next-is (omega (arith, found, entries-are accepted)) in
-          let some : eqb (Cpd.entriesNamed b name) 0 ≡ false = ne-eqb (Cpd.entriesNamed b name) 0 (λ q. absurd (omega (arith, named, q))) in
+          let more =
+          count-met (Cpd.hasName b name) (i + 1) (Cpd.count b - (i + 1)) next next-is
+          (omega (arith, found, entries-are accepted)) in
+          let some : eqb (Cpd.entriesNamed b name) 0 ≡ false =
+          ne-eqb (Cpd.entriesNamed b name) 0 (λ q. absurd (omega (arith, named, q))) in
           let two : ltb 1 (Cpd.entriesNamed b name) ≡ true = lt-ltb 1 (Cpd.entriesNamed b name) (omega (arith, named, more)) in
           simp (n, accepted, some, two, there)
 
@@ -176,16 +192,22 @@ module _ (b name : List ℕ) {t : Table} (e : t ≡ tableOf b) (i : ℕ) where
     unfolding Cpd.entryHas
     has-none l = simp (n, entries-of, le-ltb i (t .count) l)
 
-    pub has-alone : i < t .count → (key : List ℕ) → Keyed name key → {r : ℕ} → r ≡ walked b key (t .start) (i + 1) i → eqb r i ≡ Cpd.entryHas b name i
+    pub has-alone :
+        i < t .count → (key : List ℕ) → Keyed name key → {r : ℕ} → r ≡ walked b key (t .start) (i + 1) i
+        → eqb r i ≡ Cpd.entryHas b name i
     unfolding Cpd.entryHas walked tableOf
     has-alone l key h {r} w =
         let d = has-entries b name key h n e i l (eqb (Cpd.directoryNumber b) 0) refl in
         let s : t .start ≡ Cpd.headerLength b = rw (e, d) in
-        let found : eqb r i ≡ Cpd.hasName b name i = ap (λ (x : ℕ). eqb x i) (w ∙ keyed-walked b name key (t .start) (i + 1) i h) ∙ rw s (one-alone (Cpd.hasName b name) i) in
+        let found : eqb r i ≡ Cpd.hasName b name i =
+        ap (λ (x : ℕ). eqb x i) (w ∙ keyed-walked b name key (t .start) (i + 1) i h) ∙ rw s
+        (one-alone (Cpd.hasName b name) i) in
         simp (n, entries-of, lt-ltb i (t .count) l) found
 
 -- the place of entry i's name, where there is such an entry and where there is none
-name-at : (t : Bool) (x y i : ℕ) → i < cond t y 0 → cond (ltb i (cond t y 0)) (span (x + 24 * i) (x + 24 * i + 12)) nowhere ≡ span (cond t x 0 + 24 * i) (cond t x 0 + 24 * i + 12)
+name-at :
+    (t : Bool) (x y i : ℕ) → i < cond t y 0
+    → cond (ltb i (cond t y 0)) (span (x + 24 * i) (x + 24 * i + 12)) nowhere ≡ span (cond t x 0 + 24 * i) (cond t x 0 + 24 * i + 12)
 name-at true x y i l = simp (lt-ltb i y l)
 name-at false x y i l = absurd (omega arith)
 

@@ -151,7 +151,8 @@ fn part_located(n: usize, start: usize, len: usize, shared: bool) -> Located
 // The offset and the length in the entry that starts at byte `at`, each read once.
 pub(crate) fn extent_at(blob: &[u8], at: usize) -> Extent
     requires { ⌜ at + 20 ≤ length (now blob) ⌝ }
-    ensures { λ r. ⌜ (r .start ≡ Cpd.offset (now (blob .entry)) at) × (r .len ≡ Cpd.size (now (blob .entry)) at) × (r .start < 2 ^ 25) × (r .len < 2 ^ 32) ⌝ }
+    ensures { λ r. ⌜ (r .start ≡ Cpd.offset (now (blob .entry)) at) × (r .len ≡ Cpd.size (now (blob .entry)) at)
+        × (r .start < 2 ^ 25) × (r .len < 2 ^ 32) ⌝ }
 {
     let start = dword_at(blob, at + OFFSET_AT) % OFFSET_LIMIT;
     let len = dword_at(blob, at + LENGTH_AT);

@@ -3,7 +3,8 @@
 ghost use mathlib.Core.Path.{_≡_};
 ghost use Prim.Native.Nat.{_<_, _≤_};
 ghost use Rattle.firmware.specs.Cpd;
-ghost use Rattle.firmware.specs.Figures.{unmeasured, measured, imageFigures, directoryFigures, entryFigures, manifestFigures, hucFigures, headerSizes};
+ghost use Rattle.firmware.specs.Figures.{unmeasured, measured, imageFigures, directoryFigures, entryFigures};
+ghost use Rattle.firmware.specs.Figures.{manifestFigures, hucFigures, headerSizes};
 use crate::cpd::ENTRY_BYTES;
 use crate::cpd::cpd_located;
 use crate::cpd::extent_at;

@@ -39,8 +39,12 @@ returns-2 c =
     let k = at-key .key-of .ensures in
     let named = sym (at-table .before .before .is-name .ensures n refl k) ∙ not-false _ (at-table .before .if1 .left) in
     let t = at-table .read-table .result in
-    let twice = named-twice _ n _ k named (at-table .read-table .ensures) (at-next .before .walk .ensures) (at-next .walk2 .ensures) in
-    let once = named-once-at-most _ n _ k named (at-table .read-table .ensures) (at-next .before .walk .ensures) (at-next .walk2 .ensures) in
+    let twice =
+    named-twice _ n _ k named (at-table .read-table .ensures) (at-next .before .walk .ensures)
+    (at-next .walk2 .ensures) in
+    let once =
+    named-once-at-most _ n _ k named (at-table .read-table .ensures) (at-next .before .walk .ensures)
+    (at-next .walk2 .ensures) in
     let next = at-next .walk2 .result in
     cases (ltb next (t .count))
     (λ u. rw u at (c .entry-located .ensures) ∙ twice (ltb-true next (t .count) u))

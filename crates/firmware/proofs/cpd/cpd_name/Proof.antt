@@ -22,7 +22,9 @@ part-result-end-2 : tie.Need-part-result-end-2
 part-result-end-2 c = let l = table-room _ (c .before .before .before .read-table .ensures) in omega arith
 
 returns-2 : tie.Need-returns-2
-returns-2 c = rw (name-there _ _ (c .before .before .before .before .read-table .ensures) (c .before .before .if1 .left)) (search needs)
+returns-2 c =
+    rw (name-there _ _ (c .before .before .before .before .read-table .ensures) (c .before .before .if1 .left))
+    (search needs)
 
 pub cpd-name-spec : {M : Type 1} → statement M
 cpd-name-spec =

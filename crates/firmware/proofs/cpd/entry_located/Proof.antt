@@ -31,11 +31,22 @@ returns-3 : tie.Need-returns-3
 returns-3 c =
     let extent = c .before in
     let entered = extent .before .before .before .before .before .before in
-    let located = entry-part _ (entered .pre) (extent .before .before .before .before .if1 .left) _ _ (extent .before .before .if2 .left) in
+    let located =
+    entry-part _ (entered .pre) (extent .before .before .before .before .if1 .left) _ _
+    (extent .before .before .if2 .left) in
     let x = extent .extent-at .ensures in
     c .part-located .ensures ∙ sym (located _ _ (x .0) (x .1))
 
 pub entry-located-spec : {M : Type 1} → statement M
 entry-located-spec =
     tie.close
-    (tie.spec (λ c κs. search needs) returns (λ c κs. search needs) returns-2 mul-extent-at add-extent-at extent-at-requires part-located-requires returns-3)
+    (tie.spec
+    (λ c κs. search needs)
+    returns
+    (λ c κs. search needs)
+    returns-2
+    mul-extent-at
+    add-extent-at
+    extent-at-requires
+    part-located-requires
+    returns-3)

@@ -19,7 +19,8 @@ use Rattle.firmware.proofs.cpd.walk.Tie as tie
 
 -- the name bytes seen agree
 abbrev Inv-loop : tie.InvT-loop
-Inv-loop blob start count from key first i₀ at j₀ i j = (i ≡ i₀) × (8 ≤ j) × (j ≤ 12) × (Cpd.all (λ k. eqb (getD blob (at + k) 0) (getD key k 0)) j ≡ true)
+Inv-loop blob start count from key first i₀ at j₀ i j =
+    (i ≡ i₀) × (8 ≤ j) × (j ≤ 12) × (Cpd.all (λ k. eqb (getD blob (at + k) 0) (getD key k 0)) j ≡ true)
 
 abbrev μ-loop : tie.MeasureT-loop
 μ-loop blob start count from key first i₀ at j₀ i j = 12 - j
@@ -54,7 +55,8 @@ loop-holds c =
       refl,
       omega arith,
       omega arith,
-      front-agrees (a .blob .now) (a .t5) _ bytes keys (sym (c .before .front-at .ensures) ∙ c .if2 .left ∙ at-entries .before .front .ensures),
+      front-agrees (a .blob .now) (a .t5) _ bytes keys
+          (sym (c .before .front-at .ensures) ∙ c .if2 .left ∙ at-entries .before .front .ensures),
     )
 
 entries-again-2 : tie.Need-entries-again-2 Inv-loop μ-loop Inv-entries μ-entries
@@ -82,7 +84,8 @@ returns-2 c =
     let at-loop = c .before in
     let at-entries = at-loop .before .before .before .before in
     let e : at-loop .loop .j ≡ 12 = omega arith in
-    at-loop .loop .inv .0 ∙ finds _ _ (at-entries .entries .i) (at-loop .before .before .before .if1 .left) (rw e at (at-loop .loop .inv .3)) (at-entries .entries .inv)
+    at-loop .loop .inv .0 ∙ finds _ _ (at-entries .entries .i) (at-loop .before .before .before .if1 .left)
+    (rw e at (at-loop .loop .inv .3)) (at-entries .entries .inv)
 
 pub walk-spec : {M : Type 1} → statement M
 walk-spec =

@@ -8,7 +8,9 @@ returns : tie.Need-returns
 unfolding Css.agree
 returns c =
     let at-sum = c .before .before .before in
-    rw (c .before .before .summand4 .ensures .0, at-sum .before .before .summand .ensures .0, at-sum .before .summand2 .ensures .0, at-sum .summand3 .ensures .0)
+    let at-m = at-sum .before in
+    let at-k = at-m .before in
+    rw (c .before .before .summand4 .ensures .0, at-k .summand .ensures .0, at-m .summand2 .ensures .0, at-sum .summand3 .ensures .0)
 
 pub agree-spec : {M : Type 1} → statement M
 agree-spec =

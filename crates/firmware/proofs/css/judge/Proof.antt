@@ -29,7 +29,9 @@ returns-2 c b l s =
 component-located-requires-4 : tie.Need-component-located-requires-4
 component-located-requires-4 c κs =
     let at-agree = c .before .before .before .before .before .before .before .before .before in
-    let a = sizes-agree (at-agree .before .args .z) (sym (at-agree .agree .ensures) ∙ not-false _ (c .before .before .before .before .before .before .before .before .if1 .left)) in
+    let a =
+    sizes-agree (at-agree .before .args .z)
+    (sym (at-agree .agree .ensures) ∙ not-false _ (c .before .before .before .before .before .before .before .before .if1 .left)) in
     omega arith
 
 -- each component: what it needs, where it starts and where it ends are facts about numbers

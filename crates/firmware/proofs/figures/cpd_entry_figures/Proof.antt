@@ -13,7 +13,8 @@ returns c = entry-refused _ (c .before .before .read-table .ensures) _ (c .if1 .
 returns-2 : tie.Need-returns-2
 returns-2 c =
     let read = c .before .before .before .before .before in
-    c .unmeasured .ensures ∙ entry-none _ (read .read-table .ensures) (c .before .before .before .if1 .left) _ (c .before .if2 .taken)
+    c .unmeasured .ensures ∙ entry-none _ (read .read-table .ensures) (c .before .before .before .if1 .left) _
+    (c .before .if2 .taken)
 
 mul-extent-at : tie.Need-mul-extent-at
 mul-extent-at c = let l = table-room _ (c .before .before .before .before .read-table .ensures) in omega arith
@@ -29,7 +30,8 @@ returns-3 c =
     let extent = c .before .before in
     let read = extent .before .before .before .before .before .before in
     let x = extent .extent-at .ensures in
-    c .measured .ensures ∙ entry-measured _ (read .read-table .ensures) (extent .before .before .before .before .if1 .left) _ (extent .before .before .if2 .left) _ _ (x .0) (x .1)
+    c .measured .ensures ∙ entry-measured _ (read .read-table .ensures)
+    (extent .before .before .before .before .if1 .left) _ (extent .before .before .if2 .left) _ _ (x .0) (x .1)
 
 pub cpd-entry-figures-spec : {M : Type 1} → statement M
 cpd-entry-figures-spec =

@@ -14,7 +14,8 @@ returns c = c .measured .ensures ∙ image-short _ (c .before .if1 .taken)
 returns-2 : tie.Need-returns-2
 returns-2 c =
     let agreed = c .before .before in
-    c .unmeasured .ensures ∙ image-unsized _ (agreed .before .before .if1 .left) (agreed .before .read-sizes .ensures .0) (sym (agreed .agree .ensures) ∙ not-true _ (c .before .if2 .taken))
+    c .unmeasured .ensures ∙ image-unsized _ (agreed .before .before .if1 .left)
+    (agreed .before .read-sizes .ensures .0) (sym (agreed .agree .ensures) ∙ not-true _ (c .before .if2 .taken))
 
 sub-needed : tie.Need-sub-needed
 sub-needed c =
@@ -24,7 +25,8 @@ sub-needed c =
 returns-3 : tie.Need-returns-3
 returns-3 c =
     let agreed = c .before .before .before .before .before in
-    c .measured2 .ensures ∙ image-sized _ (agreed .before .before .if1 .left) (agreed .before .read-sizes .ensures .0) (sym (agreed .agree .ensures) ∙ not-false _ (c .before .before .before .before .if2 .left))
+    c .measured2 .ensures ∙ image-sized _ (agreed .before .before .if1 .left) (agreed .before .read-sizes .ensures .0)
+    (sym (agreed .agree .ensures) ∙ not-false _ (c .before .before .before .before .if2 .left))
 
 pub css-figures-spec : {M : Type 1} → statement M
 css-figures-spec =

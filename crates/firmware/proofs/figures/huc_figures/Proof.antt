@@ -17,7 +17,9 @@ part-css-figures-end : tie.Need-part-css-figures-end
 part-css-figures-end c = located-ends _ _ (cpd-lies _ _) _ _ (c .before .before .before .cpd-located .ensures)
 
 returns-2 : tie.Need-returns-2
-returns-2 c = huc-measured _ (c .before .before .before .before .before .cpd-located .ensures) (c .before .before .before .if1 .left) (c .css-figures .ensures)
+returns-2 c =
+    huc-measured _ (c .before .before .before .before .before .cpd-located .ensures)
+    (c .before .before .before .if1 .left) (c .css-figures .ensures)
 
 pub huc-figures-spec : {M : Type 1} → statement M
 huc-figures-spec =

@@ -30,7 +30,9 @@ outer-requires c κs =
     omega arith
 
 returns-2 : tie.Need-returns-2
-returns-2 c = c .outer .ensures ∙ huc-found _ _ (c .before .before .before .before .before .before .cpd-located .ensures) (c .before .before .before .before .if1 .left) (c .before .css-located .ensures)
+returns-2 c =
+    c .outer .ensures ∙ huc-found _ _ (c .before .before .before .before .before .before .cpd-located .ensures)
+    (c .before .before .before .before .if1 .left) (c .before .css-located .ensures)
 
 pub huc-located-spec : {M : Type 1} → statement M
 huc-located-spec =

@@ -55,7 +55,9 @@ returns-4 c name l h =
     let a = at-loop .before .before .before .args in
     let e : at-loop .loop .j ≡ a .len = omega arith in
     let seen : Cpd.all (Cpd.nonzero (a .t1)) (a .len) ≡ true = rw e at (at-loop .loop .inv .1) in
-    let same = all-same (Cpd.nonzero name) (Cpd.nonzero (a .t1)) (a .len) (λ k g. ap (λ (x : ℕ). not (eqb x 0)) (sym (h k (omega arith)))) in
+    let same =
+    all-same (Cpd.nonzero name) (Cpd.nonzero (a .t1)) (a .len)
+    (λ k g. ap (λ (x : ℕ). not (eqb x 0)) (sym (h k (omega arith)))) in
     simp (l, le-leb _ _ (at-loop .before .before .if1 .left), le-leb _ _ (at-loop .before .if2 .left), same, seen)
 
 pub is-name-spec : {M : Type 1} → statement M

@@ -13,7 +13,8 @@ unfolding ofVersion cssReading reading
 returns c = simp (located-code _ _ _ (c .before .css-located .ensures), ne-eqb _ _ (c .if1 .taken))
 
 dword-at-requires : tie.Need-dword-at-requires
-dword-at-requires c κs = let a = css-accepted _ (located-code _ _ _ (c .before .css-located .ensures) ∙ c .if1 .left) in omega arith
+dword-at-requires c κs =
+    let a = css-accepted _ (located-code _ _ _ (c .before .css-located .ensures) ∙ c .if1 .left) in omega arith
 
 returns-2 : tie.Need-returns-2
 unfolding ofVersion cssReading reading

@@ -23,7 +23,8 @@ returns-2 : tie.Need-returns-2
 unfolding hucReading hucNumber cssReading
 returns-2 c =
     let found = c .before .before .before .before .cpd-located .ensures in
-    simp (located-code _ _ _ found, eq-eqb _ _ (c .before .before .before .if1 .left)) (rw (found-bytes _ _ found) at (c .css-version .ensures))
+    simp (located-code _ _ _ found, eq-eqb _ _ (c .before .before .before .if1 .left))
+    (rw (found-bytes _ _ found) at (c .css-version .ensures))
 
 pub huc-version-spec : {M : Type 1} → statement M
 huc-version-spec =

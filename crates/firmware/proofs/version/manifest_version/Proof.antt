@@ -28,7 +28,8 @@ unfolding manifestReading manifestNumber manifestIn
 returns-2 c =
     let found = c .before .before .before .before .cpd-located .ensures in
     let code : ℕ = c .before .before .before .before .cpd-located .result .code in
-    simp (located-code _ _ _ found, eq-eqb code 0 (omega (arith, c .before .before .before .if1 .left))) (rw (found-bytes _ _ found) at (c .version-in .ensures))
+    simp (located-code _ _ _ found, eq-eqb code 0 (omega (arith, c .before .before .before .if1 .left)))
+    (rw (found-bytes _ _ found) at (c .version-in .ensures))
 
 pub manifest-version-spec : {M : Type 1} → statement M
 manifest-version-spec =
