@@ -76,23 +76,21 @@ pub(crate) fn send_look(c: Ctb, fence: u32, num_dwords: u32) -> Ctb {
     after_send(stage::send_look(c, msg))
 }
 
-// A send's store, with the place where its dword then stands.
+// A send's store, with the place that its dword goes to.
 pub(crate) fn send_store(c: Ctb) -> Ctb {
     let done = stage::send_store(c);
     let s = c.sender;
-    stores(done, dword_at(&s.copy, s.moved));
-    after_send(done)
-}
-
-// The name of a store of this dword.
-fn stores(done: Done, dword: u32) {
     if done.code == 0 {
-        let c = done.ctb;
-        let place = stage::place_of(&c.buf, dword);
-        two(b"Sender stores & at place %", dword as u64, place as u64);
+        let place = runs::past(s.own, s.moved, s.n);
+        two(
+            b"Sender stores & at place %",
+            dword_at(&s.copy, s.moved) as u64,
+            place as u64,
+        );
     } else {
         text(b"Sender stores");
     }
+    after_send(done)
 }
 
 // A send's publish.

@@ -1,4 +1,5 @@
 // Parts inside a directory: manifests, and images judged as blobs of their own.
+use crate::names::put_huc;
 use crate::wording::Parts;
 use crate::wording::image;
 use crate::wording::parts_or_none;
@@ -23,7 +24,7 @@ fn directory(manifest_len: u32, image_len: u32, h: usize) -> Blob {
     let mut blob = stage::blank();
     stage::put_directory(&mut blob, 2, 20);
     put_manifest(&mut blob, 20, 68, manifest_len);
-    put_huc(&mut blob, 44, image_len);
+    put_huc(&mut blob, 44, 112, image_len);
     put_dword(&mut blob, 104, 0x0004_0009);
     put_dword(&mut blob, 108, 0x0000_0002);
     let z = Sizes {
@@ -40,11 +41,6 @@ fn directory(manifest_len: u32, image_len: u32, h: usize) -> Blob {
 // An entry of the manifest's name.
 fn put_manifest(s: &mut [u8], at: usize, offset: u32, len: u32) {
     put_entry(s, at, b"HUCP.man", offset, len);
-}
-
-// An entry of the image's name.
-fn put_huc(s: &mut [u8], at: usize, len: u32) {
-    put_entry(s, at, b"huc_fw", 112, len);
 }
 
 // Manifests on both sides of 44 bytes, and blobs without one.
@@ -148,7 +144,7 @@ fn other_images() {
     let mut other = directory(44, 160, 35);
     one(b"In % bytes", 67);
     judged_to(&other, 67);
-    put_huc(&mut other, 20, 160);
+    put_huc(&mut other, 20, 112, 160);
     text(b"huc_fw twice");
     judged_to(&other, 300);
     put_manifest(&mut other, 20, 68, 44);

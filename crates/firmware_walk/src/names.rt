@@ -51,7 +51,7 @@ pub(crate) fn alike_or_twice() {
 }
 
 // An entry of the name huc_fw at byte `at`.
-fn put_huc(s: &mut [u8], at: usize, offset: u32, len: u32) {
+pub(crate) fn put_huc(s: &mut [u8], at: usize, offset: u32, len: u32) {
     put_entry(s, at, b"huc_fw", offset, len);
 }
 

@@ -4,25 +4,73 @@ use crate::kinds;
 use crate::options::Expected;
 use crate::sharing;
 use crate::verdicts;
-use firmware::ManifestVersion;
+use crate::versions;
+use firmware::Version;
+use firmware::refusal;
 
 // So many entries are named; of more it is said how many there are.
 const NAMED_MOST: usize = 64;
 
-// A file with the marker $CPD: the directory, its manifest, all its entries and the image in huc_fw, in this order.
-pub(crate) fn verdict(blob: &[u8], expect: Expected) -> u32 {
+// A file with the marker $CPD: the directory, its manifest, the image in huc_fw and all its entries, in this order. What
+// is only not judged comes last, since what a rule refuses is not to be kept.
+pub(crate) fn verdict(blob: &[u8], which: usize, expect: Expected) -> u32 {
     let d = firmware::cpd_directory(blob);
     if d.code != 0 {
         return verdicts::refused(d.code);
     }
     let m = firmware::manifest_figures(blob);
     if m.code != 0 {
-        return verdicts::refused_part(b"HUCP.man", m.code);
+        return verdicts::refused_part(b"HUCP.man: ", m.code);
+    }
+    let f = firmware::huc_figures(blob);
+    let kind = kind_of(blob, f);
+    if (kind == kinds::FIRMWARE) & (f.code != 0) {
+        return verdicts::refused_part(b"huc_fw: ", f.code);
     }
     if refused_entries(blob, 0, d.count) != 0 {
-        return verdicts::refused(21);
+        return verdicts::refused(refusal::CPD_BEYOND);
     }
-    image_verdict(blob, expect)
+    if kind != kinds::FIRMWARE {
+        return kinds::named(kind);
+    }
+    good(blob, which, expect)
+}
+
+// What the rules have no case for: no huc_fw, which only two-step loading wants, and an image in two parts.
+fn kind_of(blob: &[u8], f: firmware::Figures) -> usize {
+    let code = f.code;
+    if code == refusal::NO_ENTRY {
+        return kinds::NO_IMAGE;
+    }
+    if code == refusal::CSS_BEYOND {
+        if signature_apart(blob, f) {
+            return kinds::SIGNATURE_APART;
+        }
+    }
+    if code == refusal::CSS_SIZES {
+        if header_apart(blob) {
+            return kinds::HEADER_APART;
+        }
+    }
+    kinds::FIRMWARE
+}
+
+// Whether just RSA is missing of huc_fw, all of it, and guc_sig has as many bytes. Sizes are in dwords.
+fn signature_apart(blob: &[u8], f: firmware::Figures) -> bool {
+    let l = firmware::cpd_located(blob, b"guc_sig");
+    let z = firmware::css_sizes(firmware::cpd_part(blob, b"huc_fw"));
+    if f.needed < f.there {
+        return false;
+    }
+    let missing = f.needed - f.there;
+    (l.code == 0) & (l.len == missing) & (missing % 4 == 0) & (missing / 4 == z.k)
+}
+
+// Whether huc_fw does not start as an image, and HuC_CSS has the bytes of a header.
+fn header_apart(blob: &[u8]) -> bool {
+    let l = firmware::cpd_located(blob, b"HuC_CSS");
+    let image = firmware::cpd_part(blob, b"huc_fw");
+    (l.code == 0) & (l.len == 128) & !kinds::has_module_type(image)
 }
 
 // Of the entries from one on, how many are refused; a count of entries does not wrap.
@@ -37,74 +85,37 @@ fn refused_entries(blob: &[u8], from: usize, count: usize) -> usize {
     refused
 }
 
-// A directory whose entries are good, by the image in huc_fw. Only two-step loading wants that image, so a directory
-// without it is good.
-fn image_verdict(blob: &[u8], expect: Expected) -> u32 {
-    let f = firmware::huc_figures(blob);
-    let code = f.code;
-    if code == 0 {
-        return good(blob, expect);
-    }
-    if code == 20 {
-        return good(blob, expect);
-    }
-    if apart(blob, b"guc_sig", f.needed, f.there) {
-        return kinds::named(kinds::SIGNATURE_APART);
-    }
-    if apart(blob, b"HuC_CSS", 128, 0) {
-        return kinds::named(kinds::HEADER_APART);
-    }
-    verdicts::refused_part(b"huc_fw", code)
-}
-
-// Whether the part of that name has just the bytes that are missing.
-fn apart(blob: &[u8], name: &[u8], needed: usize, there: usize) -> bool {
-    let l = firmware::cpd_located(blob, name);
-    if needed < there {
-        return false;
-    }
-    (l.code == 0) & (0 < l.len) & (l.len == needed - there)
-}
-
-// A good directory, of the version that is expected or of another.
-fn good(blob: &[u8], expect: Expected) -> u32 {
+// A directory that no rule refuses, of the version that is expected and under a name that fits, or not.
+fn good(blob: &[u8], which: usize, expect: Expected) -> u32 {
     let v = firmware::manifest_version(blob);
-    let met = meets(v, expect);
-    verdicts::start(if met {
+    let numbers = versions::of_manifest(v);
+    let met = versions::meets(numbers, 4, expect);
+    let misnamed = which == image::NAMED_GUC;
+    verdicts::start(if met & !misnamed {
         verdicts::GOOD
     } else {
         verdicts::NOT_GOOD
     });
     say::text(b"HuC ");
     say::manifest_version(v);
-    if !met {
-        image::unexpected(expect);
+    if misnamed {
+        say::text(b", but the file's name says GuC\n");
         return verdicts::NOT_GOOD;
     }
-    let f = firmware::huc_figures(blob);
-    if f.code == 0 {
-        image::left_out(f);
-    } else {
-        say::text(b" (without huc_fw: not for two-step loading)\n");
+    if !met {
+        versions::unexpected(expect);
+        return verdicts::NOT_GOOD;
     }
+    other_version(numbers, firmware::huc_version(blob));
+    image::left_out(firmware::huc_figures(blob));
     verdicts::GOOD
 }
 
-// Whether the version is the one that is expected, by its first three numbers or all four, or none is.
-fn meets(v: ManifestVersion, expect: Expected) -> bool {
-    match v {
-        ManifestVersion::Refused(_) => false,
-        ManifestVersion::Known {
-            major,
-            minor,
-            hotfix,
-            build,
-        } => {
-            let n = expect.numbers;
-            let same = (n[0] == major as u64) & (n[1] == minor as u64) & (n[2] == hotfix as u64);
-            let all = same & (n[3] == build as u64);
-            (expect.given == 0) | ((expect.given == 3) & same) | ((expect.given == 4) & all)
-        }
+// The image's own version, where the manifest says another.
+fn other_version(numbers: [u64; 4], v: Version) {
+    if !versions::three_same(numbers, versions::of_image(v)) {
+        say::text(b", its image ");
+        say::image_version(v);
     }
 }
 
@@ -134,10 +145,22 @@ fn entries(blob: &[u8], count: usize) {
     }
     if NAMED_MOST < count {
         say::two(
-            b"  and % entries more, of which % are refused\n",
+            b"  and % entries more, of them refused: %\n",
             (count - NAMED_MOST) as u64,
             refused_entries(blob, NAMED_MOST, count) as u64,
         );
+        first_refused(blob, NAMED_MOST, count);
+    }
+}
+
+// Of the entries from one on, the first that is refused.
+fn first_refused(blob: &[u8], from: usize, count: usize) {
+    for i in from..count {
+        let l = firmware::cpd_entry(blob, i);
+        if l.code != 0 {
+            entry(blob, i);
+            return;
+        }
     }
 }
 

@@ -3,7 +3,7 @@ use crate::bytes::starts;
 use crate::kinds;
 use crate::options::Expected;
 use crate::verdicts;
-use firmware::Version;
+use crate::versions;
 
 // A file without the marker $CPD.
 pub(crate) fn verdict(blob: &[u8], which: usize, expect: Expected) -> u32 {
@@ -22,7 +22,7 @@ pub(crate) fn verdict(blob: &[u8], which: usize, expect: Expected) -> u32 {
 // An image that is accepted, of the version that is expected or of another.
 fn accepted(blob: &[u8], which: usize, expect: Expected) -> u32 {
     let v = firmware::css_version(blob);
-    let class = if meets(v, expect) {
+    let class = if versions::meets(versions::of_image(v), 3, expect) {
         verdicts::GOOD
     } else {
         verdicts::NOT_GOOD
@@ -33,35 +33,9 @@ fn accepted(blob: &[u8], which: usize, expect: Expected) -> u32 {
     if class == verdicts::GOOD {
         left_out(firmware::css_figures(blob));
     } else {
-        unexpected(expect);
+        versions::unexpected(expect);
     }
     class
-}
-
-// Whether the version is the one that is expected, or none is.
-fn meets(v: Version, expect: Expected) -> bool {
-    match v {
-        Version::Refused(_) => false,
-        Version::Known {
-            major,
-            minor,
-            patch,
-        } => {
-            let n = expect.numbers;
-            let same = (n[0] == major as u64) & (n[1] == minor as u64) & (n[2] == patch as u64);
-            (expect.given == 0) | ((expect.given == 3) & same)
-        }
-    }
-}
-
-// The version that was expected instead.
-pub(crate) fn unexpected(expect: Expected) {
-    let n = expect.numbers;
-    if expect.given == 4 {
-        say::four(b", expected %.%.%.%\n", n[0], n[1], n[2], n[3]);
-    } else {
-        say::four(b", expected %.%.%\n", n[0], n[1], n[2], 0);
-    }
 }
 
 // What an accepted image has beside header, uCode and RSA; ends the line.
@@ -86,19 +60,25 @@ pub(crate) fn left_out(f: firmware::Figures) {
     say::text(b")\n");
 }
 
-// Which firmware the file's own name says, 'guc' or 'huc' in it: 0 for GuC, 1 for HuC, 2 for neither. The header does
-// not say.
+// What a file's own name says that it is. The header does not say.
+pub(crate) const NAMED_GUC: usize = 0;
+
+pub(crate) const NAMED_HUC: usize = 1;
+
+pub(crate) const NAMED_NEITHER: usize = 2;
+
+// Which firmware the name says, by 'guc' or 'huc' in it.
 pub(crate) fn firmware_named(path: &[u8]) -> usize {
-    let mut which = 2;
+    let mut which = NAMED_NEITHER;
     for i in 0..path.len() {
         if path[i] == b'/' {
-            which = 2;
+            which = NAMED_NEITHER;
         }
         if starts(&path[i..], b"guc") {
-            which = 0;
+            which = NAMED_GUC;
         }
         if starts(&path[i..], b"huc") {
-            which = 1;
+            which = NAMED_HUC;
         }
     }
     which
@@ -118,7 +98,7 @@ pub(crate) fn figures(blob: &[u8], class: u32) {
             0,
         );
         say::image_parts(blob);
-    } else if f.code == 16 {
+    } else if f.code == firmware::refusal::CSS_SIZES {
         sizes(firmware::css_sizes(blob));
     } else {
         verdicts::shortage(f);

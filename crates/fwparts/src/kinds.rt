@@ -26,8 +26,10 @@ pub(crate) const SIGNATURE_APART: usize = 8;
 
 pub(crate) const HEADER_APART: usize = 9;
 
+pub(crate) const NO_IMAGE: usize = 10;
+
 // None of these.
-pub(crate) const FIRMWARE: usize = 10;
+pub(crate) const FIRMWARE: usize = 11;
 
 // What a file of that kind is.
 pub(crate) fn named(kind: usize) -> u32 {
@@ -42,15 +44,20 @@ pub(crate) fn named(kind: usize) -> u32 {
           a GSC image, which this version does not read\n\
           not a file of GuC or HuC: neither their CSS header nor a code partition directory\n\
           a HuC directory with the signature apart, in guc_sig: ask the office, the rules have no case for it\n\
-          a HuC directory with the CSS header apart, in HuC_CSS: ask the office, the rules have no case for it\n",
+          a HuC directory with the CSS header apart, in HuC_CSS: ask the office, the rules have no case for it\n\
+          a HuC directory without huc_fw: only for boxes that do not load in two steps, ask the office\n",
         kind,
     );
     say::text(b"\n");
     verdicts::NOT_JUDGED
 }
 
-// What a file is that the rules for images refuse by that number. One of GuC or HuC starts with the dword 6 (Linux: the
-// CSS module type).
+// Whether it starts with the dword 6, as images of GuC and HuC do (Linux: the CSS module type). No rule reads it.
+pub(crate) fn has_module_type(blob: &[u8]) -> bool {
+    starts(blob, b"\x06\0\0\0")
+}
+
+// What a file is that the rules for images refuse by that number.
 pub(crate) fn of_image(blob: &[u8], code: u32) -> usize {
     if blob.len() == 0 {
         return EMPTY;
@@ -65,8 +72,8 @@ pub(crate) fn of_image(blob: &[u8], code: u32) -> usize {
     if is_text(blob) {
         return TEXT;
     }
-    if code == 16 {
-        if !starts(blob, b"\x06\0\0\0") {
+    if code == firmware::refusal::CSS_SIZES {
+        if !has_module_type(blob) {
             return if is_gsc(blob) { GSC } else { OTHER };
         }
     }
@@ -109,11 +116,11 @@ fn wide(b: u8) -> usize
 }
 
 // A GSC image has the offset of Boot1 as the dword at byte 32, and there a partition table that starts AA 55 00 00
-// (document 02, T-05). Such an offset is small: its highest byte is 0.
+// (document 02, T-05). The file is not that long where the dword's highest byte is not 0.
 fn is_gsc(blob: &[u8]) -> bool {
     let at = wide(byte(blob, 32)) + 0x100 * wide(byte(blob, 33)) + 0x1_0000 * wide(byte(blob, 34));
     if blob.len() < at {
         return false;
     }
-    starts(&blob[at..], b"\xaa\x55\0\0")
+    (byte(blob, 35) == 0) & starts(&blob[at..], b"\xaa\x55\0\0")
 }

@@ -10,6 +10,7 @@ mod reading;
 mod sharing;
 mod tally;
 mod verdicts;
+mod versions;
 
 use options::Options;
 use tally::Tally;
@@ -17,7 +18,7 @@ use tally::Tally;
 // What the bytes of a file are. The marker $CPD makes a file a directory, good or not.
 fn report(blob: &[u8], which: usize, o: Options) -> u32 {
     if firmware::cpd_marker(blob) {
-        let class = directory::verdict(blob, o.expect);
+        let class = directory::verdict(blob, which, o.expect);
         if o.figures {
             directory::figures(blob);
         }
@@ -34,11 +35,13 @@ fn report(blob: &[u8], which: usize, o: Options) -> u32 {
 // The verdict on the bytes of a file, and then a part of those bytes, where one is asked for and the file is good.
 fn judge(blob: &[u8], which: usize, o: Options) -> u32 {
     let class = report(blob, which, o);
-    if class == verdicts::GOOD {
-        if o.part != 0 {
-            return output::part(blob, o.part, o.out);
-        }
+    if o.part == 0 {
+        return class;
     }
+    if class == verdicts::GOOD {
+        return output::part(blob, o.part, o.out);
+    }
+    say::text(b"  nothing written: only of a file that is good\n");
     class
 }
 
@@ -65,15 +68,14 @@ fn file(i: usize, o: Options) -> u32 {
     let mut path = io::buffer();
     let n = os::arg(i, &mut path);
     if os::errno() != 0 {
-        os::fail(b"fwparts: the file's name");
-        return verdicts::NOT_READ;
+        return reading::unread(libc::ENAMETOOLONG);
     }
     if o.several {
         reading::name(&path[..n]);
     }
     let fd = os::open_read(&path[..n]);
     if fd < 0 {
-        return reading::unread();
+        return reading::unread(os::errno());
     }
     opened(fd, image::firmware_named(&path[..n]), o)
 }

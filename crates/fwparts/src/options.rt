@@ -8,10 +8,11 @@ pub(crate) struct Expected {
     pub numbers: [u64; 4],
 }
 
-// What is asked. `at` is the argument behind the options; `part` and `out` are the arguments with the part's name and
-// the new file's, 0 where none is asked.
+// What is asked. `at` is the argument behind the options, and `ended` whether `--` stands before it; `part` and `out`
+// are the arguments with the part's name and the new file's, 0 where none is asked.
 pub(crate) struct Options {
     pub at: usize,
+    pub ended: bool,
     pub figures: bool,
     pub several: bool,
     pub expect: Expected,
@@ -79,22 +80,37 @@ fn version_argument(i: usize) -> Expected {
     version(&word[..n])
 }
 
-// Which option the word is: the numbers of `with_option`, 0 where it is none.
+// The options.
+const NONE: u32 = 0;
+
+const FIGURES: u32 = 1;
+
+const EXPECT: u32 = 2;
+
+const PART: u32 = 3;
+
+const OUT: u32 = 4;
+
+const END: u32 = 5;
+
+const UNKNOWN: u32 = 6;
+
+// Which option the word is.
 fn option_of(word: &[u8]) -> u32 {
     if equal(word, b"--figures") {
-        1
+        FIGURES
     } else if equal(word, b"--expect") {
-        2
+        EXPECT
     } else if equal(word, b"--part") {
-        3
+        PART
     } else if equal(word, b"--out") {
-        4
+        OUT
     } else if equal(word, b"--") {
-        5
+        END
     } else if byte(word, 0) == b'-' {
-        6
+        UNKNOWN
     } else {
-        0
+        NONE
     }
 }
 
@@ -105,39 +121,50 @@ fn option_argument(i: usize) -> u32 {
     option_of(&word[..n])
 }
 
-// With the option in argument `at`, whose value is the argument behind it.
+// With the option in argument `at`, whose value is the argument behind it. One that is given twice is wrong.
 fn with_option(o: Options, option: u32) -> Options {
     let value = std::num::wrapping_add_usize(o.at, 1);
     let mut next = o;
     next.at = std::num::wrapping_add_usize(o.at, 2);
     match option {
-        1 => {
+        FIGURES => {
+            next.wrong = o.figures;
             next.figures = true;
             next.at = value;
         }
-        2 => {
+        EXPECT => {
+            let before = o.expect;
             let expect = version_argument(value);
-            next.wrong = (expect.given < 3) | (4 < expect.given);
+            next.wrong = (before.given != 0) | (expect.given < 3) | (4 < expect.given);
             next.expect = expect;
         }
-        3 => next.part = value,
-        4 => next.out = value,
-        5 => next.at = value,
+        PART => {
+            next.wrong = o.part != 0;
+            next.part = value;
+        }
+        OUT => {
+            next.wrong = o.out != 0;
+            next.out = value;
+        }
+        END => {
+            next.ended = true;
+            next.at = value;
+        }
         _ => next.wrong = true,
     }
     next
 }
 
-// Each option at most once or twice; more are wrong usage.
+// Up to the first file; each option stands at most once.
 fn all_options(o: Options) -> Options {
     let mut next = o;
     for k in 0usize..8 {
         let option = option_argument(next.at);
-        if option == 0 {
+        if option == NONE {
             return next;
         }
         next = with_option(next, option);
-        if (option == 5) | next.wrong {
+        if next.ended | next.wrong {
             return next;
         }
     }
@@ -145,12 +172,21 @@ fn all_options(o: Options) -> Options {
     next
 }
 
-// The options of this run. Figures are shown of a single file, and of several where they are asked for; a part is of
-// one file.
-pub(crate) fn read() -> Options {
-    let count = os::arg_count();
-    let mut o = all_options(Options {
+// Whether an option stands among the files.
+fn option_behind(from: usize, count: usize) -> bool {
+    for i in from..count {
+        if option_argument(i) != NONE {
+            return true;
+        }
+    }
+    false
+}
+
+// Nothing asked yet.
+fn nothing_asked() -> Options {
+    Options {
         at: 1,
+        ended: false,
         figures: false,
         several: false,
         expect: Expected {
@@ -160,14 +196,27 @@ pub(crate) fn read() -> Options {
         part: 0,
         out: 0,
         wrong: false,
-    });
+    }
+}
+
+// The options of this run. Figures are shown of a single file, and of several where they are asked for; a part is of one
+// file. What starts with a dash is no file, unless `--` stands before the files: else an option behind a file would be
+// passed over.
+pub(crate) fn read() -> Options {
+    let count = os::arg_count();
+    let mut o = all_options(nothing_asked());
     let files = if o.at < count { count - o.at } else { 0 };
+    let half = (o.part == 0) != (o.out == 0);
+    let many = (o.part != 0) & (files != 1);
+    let mixed = if o.ended {
+        false
+    } else {
+        option_behind(o.at, count)
+    };
     o.several = 1 < files;
     if files == 1 {
         o.figures = true;
     }
-    let half = (o.part == 0) != (o.out == 0);
-    let many = (o.part != 0) & (files != 1);
-    o.wrong = o.wrong | (files == 0) | half | many;
+    o.wrong = o.wrong | (files == 0) | half | many | mixed;
     o
 }

@@ -26,7 +26,7 @@ fn name_entries(blob: &[u8], count: usize, name: &[u8]) -> usize {
 
 // What is said of 22, and nothing of another number.
 pub(crate) fn shared(code: u32, blob: &[u8], name: &[u8]) {
-    if code != 22 {
+    if code != firmware::refusal::DUPLICATE_ENTRY {
         return;
     }
     say::text(b"    entries");

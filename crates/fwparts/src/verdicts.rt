@@ -21,17 +21,13 @@ pub(crate) fn start(class: u32) -> u32 {
 
 // A file that a number refuses: its sentence.
 pub(crate) fn refused(code: u32) -> u32 {
-    start(NOT_GOOD);
-    say::sentence(code);
-    say::one(b" (%)\n", code as u64);
-    NOT_GOOD
+    refused_part(b"", code)
 }
 
-// The same of a part in a directory, by its name.
+// The same of a part in a directory, behind its name.
 pub(crate) fn refused_part(name: &[u8], code: u32) -> u32 {
     start(NOT_GOOD);
     say::text(name);
-    say::text(b": ");
     say::sentence(code);
     say::one(b" (%)\n", code as u64);
     NOT_GOOD

@@ -10,10 +10,8 @@ use say::one;
 use say::text;
 use say::two;
 
-// The numbers that refuse to unpack and to pack.
-const MALFORMED: u32 = 4;
-
-const UNFIT: u32 = 14;
+// The number that refuses to unpack, as the C header names it; the one that refuses to pack is firmware's too.
+const BAD_MESSAGE: u32 = 4;
 
 fn main() {
     whole_messages();
@@ -134,7 +132,7 @@ fn pair(header: u32, word: u32) {
 fn unpacked(dwords: &[u32]) {
     begun(dword_at(dwords, 0), dword_at(dwords, 1), dwords.len());
     match message::unpack(dwords) {
-        Unpacked::Malformed => refused(MALFORMED),
+        Unpacked::Malformed => refused(BAD_MESSAGE),
         Unpacked::Decoded(m) => {
             text(b"\n    ");
             packed(m);
@@ -157,7 +155,7 @@ fn begun(first: u32, second: u32, len: usize) {
 fn packed(m: Message) {
     described(m);
     match message::pack(m) {
-        Packed::Unfit => refused(UNFIT),
+        Packed::Unfit => refused(firmware::refusal::BAD_FIELD),
         Packed::Dwords(header, word) => { two(b"\n    packs to & &\n", header as u64, word as u64) }
     }
 }

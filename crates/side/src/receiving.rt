@@ -16,8 +16,8 @@ use crate::words::OWN;
 use crate::words::SECOND;
 use crate::words::STATE_WORDS;
 use crate::words::counts_of;
+use crate::words::idle_at;
 use crate::words::is_idle;
-use crate::words::rest_at;
 use channel::publish_number;
 use channel::receiving_number;
 use message::dword_at;
@@ -155,7 +155,7 @@ fn publish_at(w: &mut [u32; STATE_WORDS], desc: &mut [u32], n: usize, out: &mut 
     if code == refusal::MALFORMED {
         let head = past(s.own, len, n) as u32;
         ring::publish_head(desc, head);
-        rest_at(&mut w[..], head);
+        idle_at(&mut w[..], head);
         return Laid {
             code: refusal::MALFORMED,
             len: 0,
@@ -163,7 +163,7 @@ fn publish_at(w: &mut [u32; STATE_WORDS], desc: &mut [u32], n: usize, out: &mut 
     }
     let head = lay(out, header, second, &w[..], len, s.own, n) as u32;
     ring::publish_head(desc, head);
-    rest_at(&mut w[..], head);
+    idle_at(&mut w[..], head);
     Laid { code: 0, len }
 }
 

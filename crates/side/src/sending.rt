@@ -14,9 +14,9 @@ use crate::words::SECOND;
 use crate::words::STATE_WORDS;
 use crate::words::copy_dword;
 use crate::words::counts_of;
+use crate::words::idle_at;
 use crate::words::is_idle;
 use crate::words::load;
-use crate::words::rest_at;
 use channel::sending_number;
 use message::dword_at;
 use runs::past;
@@ -140,7 +140,7 @@ fn publish_at(w: &mut [u32; STATE_WORDS], desc: &mut [u32], n: usize) -> u32
     }
     let tail = past(s.own, s.len, n) as u32;
     ring::publish_tail(desc, tail);
-    rest_at(&mut w[..], tail);
+    idle_at(&mut w[..], tail);
     0
 }
 

@@ -57,7 +57,7 @@ fn clear_copy(w: &mut [u32])
 }
 
 // Makes the words idle at an own offset.
-pub(crate) fn rest_at(w: &mut [u32], own: u32)
+pub(crate) fn idle_at(w: &mut [u32], own: u32)
     requires { ⌜ length (now w) ≡ 260 ⌝ }
     ensures { λ _. ⌜ stateOf (now (w .exit)) ≡ idleAt (getD (now (w .entry)) 0 0) own ⌝ }
 {
@@ -72,7 +72,7 @@ pub(crate) fn make(w: &mut [u32], n: u32)
     requires { ⌜ length (now w) ≡ 260 ⌝ }
     ensures { λ _. ⌜ stateOf (now (w .exit)) ≡ idleAt n 0 ⌝ }
 {
-    rest_at(w, 0);
+    idle_at(w, 0);
     w[N] = n;
 }
 

@@ -1,13 +1,11 @@
--- Laws of what scenes are built with: bytes laid from a place on, dwords that count up, a dword found, and a part at
--- the front, and what packing answers.
+-- Laws of what scenes are built with: bytes laid from a place on, dwords that count up, a part at the front, and what packing answers.
 use Prim.Native.Nat.{ℕ, zero, suc, _+_, _-_, _%_, _^_, _≤_, _<_}
 use mathlib.Core.Path.{_≡_, refl, sym, ap, _∙_}
 use mathlib.Core.List.{List, [], _∷_, _++_, append-nil}
 use native.Mathlib.Omega.{arith}
 use lib.ListN.{length, getD, set, take, drop, length-drop, drop-of-length-le}
-use lib.Seq.{take-all, drop-cons, drop-drop, getD-drop}
-use native.Mathlib.Numerals.{add-one}
-use borrow.Author.Tests.{le-leb, lt-leb, eq-eqb, ne-eqb}
+use lib.Seq.{take-all, drop-drop, getD-drop}
+use borrow.Author.Tests.{le-leb, lt-leb}
 use borrow.Rule.Slice.PartMut.{putMid}
 use denote.Ref.{RefT, now}
 use Rattle.message.specs.Packing.{Answer, ofPacked, pack, packAnswer}
@@ -17,7 +15,7 @@ use Rattle.message.specs.declared.Packed.the-variants.{Unfit, Dwords}
 use Rattle.message.proofs.Agreement.{answers}
 use Rattle.channel.specs.State.{zeros}
 use Rattle.stage.specs.Files.{Laying, from}
-use Rattle.stage.specs.Dwords.{counting, placeOf, FrontOf}
+use Rattle.stage.specs.Dwords.{counting, FrontOf}
 use Rattle.stage.specs.Messages.{dwordsOf}
 
 -- what is laid in the part from `at` on is laid from there
@@ -51,17 +49,6 @@ pub length-counting : (first k : ℕ) → length (counting first k) ≡ k
 unfolding counting
 length-counting first zero = refl
 length-counting first (suc k) = ap suc (length-counting ((first + 1) % 2 ^ 32) k)
-
--- the dword sought is here, or behind
-pub place-here : (xs : List ℕ) (i dword : ℕ) → i < length xs → getD xs i 0 ≡ dword → placeOf (drop i xs) dword ≡ 0
-unfolding placeOf
-place-here xs i dword h e = simp (drop-cons xs i 0 h, eq-eqb (getD xs i 0) dword e)
-
-pub place-behind :
-    (xs : List ℕ) (i dword : ℕ) → i < length xs → (getD xs i 0 ≡ dword → ⊥)
-    → placeOf (drop i xs) dword ≡ suc (placeOf (drop (i + 1) xs) dword)
-unfolding placeOf
-place-behind xs i dword h e = simp (add-one, drop-cons xs i 0 h, ne-eqb (getD xs i 0) dword e)
 
 -- all of what was lent is its front
 pub front-all : (s : RefT (List ℕ)) (n : ℕ) → length (now s) < n → FrontOf s (take n (now s)) s

@@ -1,20 +1,13 @@
--- Dwords that programs fill, find and show a part of. All of it is ours: no paper speaks of scenes.
+-- Dwords that programs fill, and show a part of. Ours: no paper speaks of scenes.
 use Prim.Native.Nat.{ℕ, zero, suc, _+_, _%_, _^_}
 use mathlib.Core.Path.{_≡_}
-use mathlib.Core.Bool.{cond}
 use mathlib.Core.List.{List, [], _∷_}
-use lib.Dec.{eqb}
 use denote.Ref.{RefT, ptr, now}
 
 -- k dwords, each with a value of its own: one more than the one before, modulo 2 ^ 32
 unfoldable pub counting : ℕ → ℕ → List ℕ
 counting first zero = []
 counting first (suc k) = first ∷ counting ((first + 1) % 2 ^ 32) k
-
--- the first place that holds the dword, or the number of places where none does
-unfoldable pub placeOf : List ℕ → ℕ → ℕ
-placeOf [] dword = 0
-placeOf (x ∷ xs) dword = cond (eqb x dword) 0 (suc (placeOf xs dword))
 
 -- a part that starts where what was lent starts, and holds these
 pub record FrontOf (s : RefT (List ℕ)) (held : List ℕ) (r : RefT (List ℕ)) : Type 0 where

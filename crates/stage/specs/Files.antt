@@ -1,4 +1,5 @@
--- Firmware files laid byte by byte, as document 01 lays them out ('Firmware images'). What does not fit is not laid.
+-- Firmware files laid byte by byte, as document 01 lays them out ('Firmware images'). A byte that does not
+-- fit is not laid.
 use Prim.Native.Nat.{ℕ, _+_, _%_, _/_, _^_}
 use mathlib.Core.Bool.{cond}
 use mathlib.Core.List.{List, _++_}
@@ -30,7 +31,8 @@ padded x j = from j (four (getD x j 0) (getD x (j + 1) 0) (getD x (j + 2) 0) (ge
 unfoldable pub name : List ℕ → Laying
 name x s = padded x 8 (padded x 4 (padded x 0 s))
 
--- 'Dwords: 1 = h .., 6 = s .., 7 = k .., 8 = m .., 9 = e .., 16 = version': an image's header, of version 70.5.1
+-- 'Dwords: 1 = h .., 6 = s .., 7 = k .., 8 = m .., 9 = e .., 16 = version': an image's header, with the low 32 bits of
+-- each size, of version 70.5.1
 unfoldable pub header : Sizes → Laying
 header z s =
     dword 64 0x460501

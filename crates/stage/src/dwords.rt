@@ -1,8 +1,8 @@
-// Dwords filled, compared and found.
+// Dwords filled, compared and shown in part.
 ghost use mathlib.Core.Path.{_≡_};
 ghost use mathlib.Core.Bool.{true};
 ghost use lib.ListN.{length, take, drop};
-ghost use Rattle.stage.specs.Dwords.{counting, placeOf, FrontOf};
+ghost use Rattle.stage.specs.Dwords.{counting, FrontOf};
 
 // Whether the two hold the same dwords.
 pub(crate) fn same(a: &[u32], b: &[u32]) -> bool
@@ -19,20 +19,6 @@ pub(crate) fn same(a: &[u32], b: &[u32]) -> bool
         i += 1;
     }
     true
-}
-
-// The first place that holds the dword, or the number of places where none does.
-pub fn place_of(buf: &[u32], dword: u32) -> usize
-    ensures { λ r. ⌜ r ≡ placeOf (now (buf .entry)) dword ⌝ }
-{
-    let mut i = 0;
-    while i < buf.len() {
-        if buf[i] == dword {
-            return i;
-        }
-        i += 1;
-    }
-    i
 }
 
 // The first len dwords, or all where there are fewer.

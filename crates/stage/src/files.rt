@@ -1,5 +1,5 @@
-// Firmware files laid byte by byte: numbers, names, image headers, directories and entries. What does not fit is not
-// laid.
+// Firmware files laid byte by byte: numbers, names, image headers, directories and entries. A byte that does
+// not fit is not laid.
 ghost use mathlib.Core.Path.{_≡_};
 ghost use Prim.Native.Nat.{_%_, _^_, _≤_};
 ghost use lib.ListN.{getD, set, take, replicate};

@@ -20,7 +20,6 @@ pub use channels::unopened;
 pub use channels::with_dword;
 pub use channels::with_sender_at;
 pub use channels::with_word;
-pub use dwords::place_of;
 pub use files::Blob;
 pub use files::blank;
 pub use files::cut;

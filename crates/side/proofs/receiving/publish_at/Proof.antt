@@ -53,7 +53,7 @@ returns-2 c b e =
     let f = malformed .before in
     let w = now (start (f .before) .args .w) in
     let p = after-past .past .ensures .0 ∙ counts-past _ _ _ (after-counts (f .before) .counts-of .ensures) (fits f) in
-    simp (e, ← number (f .before), malformed .if2 .taken, after-publish .publish-head .ensures, c .rest-at .ensures, p, n-is w)
+    simp (e, ← number (f .before), malformed .if2 .taken, after-publish .publish-head .ensures, c .idle-at .ensures, p, n-is w)
 
 -- a number that is not 13 is 0, and then the message has at least two dwords
 zero : (c : tie.Else2) → c .before .before .publish-number .result ≡ 0
@@ -78,7 +78,7 @@ returns-3 c b e =
     let w = now (start (f .before) .args .w) in
     let l = after-lay .lay .ensures in
     let p = l .1 ∙ counts-past _ _ _ (after-counts (f .before) .counts-of .ensures) (fits f) in
-    simp (e, ← number (f .before), zero s, after-publish .publish-head2 .ensures, c .rest-at2 .ensures, p, l .0, len-is f, n-is w)
+    simp (e, ← number (f .before), zero s, after-publish .publish-head2 .ensures, c .idle-at2 .ensures, p, l .0, len-is f, n-is w)
 
 pub publish-at-spec : {M : Type 1} → statement M
 publish-at-spec =

@@ -48,7 +48,7 @@ returns-2 c b e =
     let q = goes-on .before in
     let w = now (start q .args .w) in
     let p = after-past .past .ensures .0 ∙ counts-past _ _ _ (after-counts q .counts-of .ensures) (fits goes-on) in
-    simp (e, ← number q, goes-on .if1 .left, after-publish .publish-tail .ensures, c .rest-at .ensures, p, n-is w)
+    simp (e, ← number q, goes-on .if1 .left, after-publish .publish-tail .ensures, c .idle-at .ensures, p, n-is w)
 
 pub publish-at-spec : {M : Type 1} → statement M
 publish-at-spec =

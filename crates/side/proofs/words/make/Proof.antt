@@ -9,7 +9,7 @@ returns : tie.Need-returns
 returns c =
     let after-rest = c .before .before in
     let start = after-rest .before .before .before in
-    let r = after-rest .rest-at in
+    let r = after-rest .idle-at in
     made (start .args .n) _ (r .last .0) (r .kept .0 ∙ start .pre) (r .ensures)
 
 pub make-spec : {M : Type 1} → statement M

@@ -1,8 +1,8 @@
--- `words::rest_at` meets its contract. Assumes nothing.
+-- `words::idle_at` meets its contract. Assumes nothing.
 use Rattle.side.proofs.InWords.{rested}
 use borrow.Author.Needs.{needs}
-use Rattle.side.proofs.words.rest_at.Statement.{statement}
-use Rattle.side.proofs.words.rest_at.Tie as tie
+use Rattle.side.proofs.words.idle_at.Statement.{statement}
+use Rattle.side.proofs.words.idle_at.Tie as tie
 
 returns : tie.Need-returns
 returns c =
@@ -10,8 +10,8 @@ returns c =
     let a = start .args in
     rw (c .before .before .clear-copy .ensures) (rested (a .own) (a .w .now) (start .pre))
 
-pub rest-at-spec : {M : Type 1} → statement M
-rest-at-spec =
+pub idle-at-spec : {M : Type 1} → statement M
+idle-at-spec =
     tie.close
     (tie.spec
     (λ c κs. search needs)
