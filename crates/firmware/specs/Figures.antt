@@ -12,7 +12,8 @@ use Rattle.firmware.specs.Inside.{manifestName, hucName, partNamed, hucB
 use Rattle.firmware.specs.declared.css.Sizes.{Sizes}
 use Rattle.firmware.specs.declared.figures.Figures.{Figures}
 
--- a number with its figures: the bytes that it asks for, those that nothing is left out of, and those that are there
+-- a number with its figures: the bytes that it asks for, those that nothing is left out of (as far as they are known:
+-- beside 15 the header's), and those that are there
 abbrev pub figures : ℕ → ℕ → ℕ → ℕ → Figures
 figures n needed whole there = record { code = n; needed = needed; whole = whole; there = there }
 
@@ -20,7 +21,7 @@ figures n needed whole there = record { code = n; needed = needed; whole = whole
 abbrev pub short : ℕ → ℕ → Figures
 short needed there = figures 15 needed needed there
 
--- a number that asks for no bytes
+-- a number that asks for no bytes, or of which none are counted here
 abbrev pub unmeasured : ℕ → ℕ → Figures
 unmeasured n there = figures n 0 0 there
 

@@ -30,7 +30,8 @@ use Rattle.refusals.specs.Left.{OperationRefused, OpeningRefused, Reserv
 -- With each stand the functions whose contracts cite its definition. Functions that a crate only lends to those above
 -- it (the decisions of `ring` and `channel`, and whole calls at once) are held to the chains themselves. `guc` has
 -- these calls under C's names, and what it refuses beyond them (100, 101, an origin that is no bit, and a field that a
--- type does not have) is in guc/specs.
+-- type does not have) is in guc/specs. `side`'s calls for all the moves that are left stand for moves, and their numbers
+-- are in delivery/specs/HalfWhole.
 pub data PublicCall : Type 0 where
   -- channel::open_channel, side::open_channel
   openCall : List ℕ → List ℕ → PublicCall
