@@ -6,6 +6,7 @@ use crate::print::either;
 use crate::print::four;
 use crate::print::text;
 use crate::print::two;
+use ring::refusal;
 
 // The places of the ring that programs show.
 pub(crate) const PLACES: usize = 1024;
@@ -21,7 +22,11 @@ pub fn verdict(code: u32) {
         text(b": accepted");
         return;
     }
-    either(code == 13, b"\n    passed over by ", b"\n    REFUSED by ");
+    either(
+        code == refusal::MALFORMED,
+        b"\n    passed over by ",
+        b"\n    REFUSED by ",
+    );
     number(code);
 }
 
