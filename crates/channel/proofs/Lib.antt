@@ -5,3 +5,4 @@ pub mod SendAtOnce
 pub mod ReceiveAtOnce
 pub mod Steps
 pub mod AllMoves
+pub mod Wholes

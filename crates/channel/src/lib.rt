@@ -9,6 +9,7 @@ pub use opening::Opened;
 pub use opening::clear;
 pub use opening::open_channel;
 pub use opening::open_number;
+pub use receiving::Laid;
 pub use receiving::Received;
 pub use receiving::Receiver;
 pub use receiving::Stepped;

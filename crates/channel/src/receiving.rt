@@ -41,6 +41,12 @@ pub struct Received {
     pub next: Receiver,
 }
 
+// The same where the state is kept elsewhere (`side`, `two_words`).
+pub struct Laid {
+    pub code: u32,
+    pub len: usize,
+}
+
 impl Receiver {
     // The idle state made for n dwords, at an own offset.
     pub fn idle_at(n: usize, own: usize) -> Self
@@ -76,11 +82,11 @@ impl Receiver {
     }
 
     // The number of a step that goes on.
-    fn go_on_number(self, descriptor: usize, n: usize, rest: u32) -> u32
-        ensures { λ r. ⌜ r ≡ firstNeeds descriptor n (activeReceive n (ofReceiver self)) rest ⌝ }
+    fn go_on_number(self, descriptor: usize, n: usize, later: u32) -> u32
+        ensures { λ r. ⌜ r ≡ firstNeeds descriptor n (activeReceive n (ofReceiver self)) later ⌝ }
     {
         let copy = self.copy;
-        receiving_number(self.counts(), copy[0], descriptor, n, rest)
+        receiving_number(self.counts(), copy[0], descriptor, n, later)
     }
 
     // Judges the descriptor and the header, and takes a copy of the header.

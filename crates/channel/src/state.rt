@@ -169,11 +169,11 @@ pub fn sending_number(
     )
 }
 
-// The number of a step that goes on with a receive: 1, 2, 3, then the rest.
-pub fn receiving_number(s: Counts, header: u32, descriptor: usize, n: usize, rest: u32) -> u32
-    ensures { λ r. ⌜ r ≡ firstNeeds descriptor n (activeReceive n (counted s (header ∷ []))) rest ⌝ }
+// The number of a step that goes on with a receive: 1, 2, 3, then the later tests.
+pub fn receiving_number(s: Counts, header: u32, descriptor: usize, n: usize, later: u32) -> u32
+    ensures { λ r. ⌜ r ≡ firstNeeds descriptor n (activeReceive n (counted s (header ∷ []))) later ⌝ }
 {
-    first_needs(descriptor, n, fits_receiving(n, s, header), rest)
+    first_needs(descriptor, n, fits_receiving(n, s, header), later)
 }
 
 // The number of a receive's publish: 5, 12, then 13, by the first two dwords of the copy.
@@ -188,7 +188,7 @@ pub fn publish_number(
     ensures { λ r. ⌜ r ≡ publishNumberOf (counted s (header ∷ second ∷ [])) output descriptor n ⌝ }
 {
     let formed = message::well_formed(header, second);
-    let rest = need(
+    let later = need(
         s.len <= s.moved,
         refusal::OUT_OF_TURN,
         need(formed, refusal::MALFORMED, 0),
@@ -198,6 +198,6 @@ pub fn publish_number(
         header,
         descriptor,
         n,
-        need(MESSAGE_MAX <= output, refusal::SHORT_OUTPUT, rest),
+        need(MESSAGE_MAX <= output, refusal::SHORT_OUTPUT, later),
     )
 }

@@ -4,10 +4,10 @@ ghost use mathlib.Core.List.{[]};
 ghost use Rattle.channel.specs.Opening.{opening};
 ghost use Rattle.channel.specs.Send;
 ghost use Rattle.channel.specs.Receive;
-ghost use Rattle.side.specs.Words.{wholeOf, inTwoWords, openedTwoWords};
+ghost use Rattle.two_words.specs.TwoWords.{wholeOf, inTwoWords, openedTwoWords};
 use crate::calls::Received;
 use ring::DESCRIPTOR_DWORDS;
-use side::WHOLE_WORDS;
+use two_words::WHOLE_WORDS;
 
 #[no_mangle]
 pub extern "C" fn guc_whole_open(
@@ -20,7 +20,7 @@ pub extern "C" fn guc_whole_open(
         ⌜ openedTwoWords r (now (sender .exit)) (now (receiver .exit)) (now (desc .exit)) (now (buf .entry))
         ≡ opening (now (desc .entry)) (now (buf .entry)) ⌝ }
 {
-    side::whole_open(sender, receiver, &mut desc[..], buf)
+    two_words::whole_open(sender, receiver, &mut desc[..], buf)
 }
 
 #[no_mangle]
@@ -34,7 +34,7 @@ pub extern "C" fn guc_whole_send(
         ⌜ inTwoWords r 0 (now (w .exit)) (now (desc .exit)) (now (buf .exit)) []
         ≡ Send.whole (wholeOf (now (w .entry))) (now (msg .entry)) (now (desc .entry)) (now (buf .entry)) ⌝ }
 {
-    side::whole_send(w, &mut desc[..], buf, msg)
+    two_words::whole_send(w, &mut desc[..], buf, msg)
 }
 
 #[no_mangle]
@@ -48,7 +48,7 @@ pub extern "C" fn guc_whole_receive(
         ⌜ inTwoWords (r .code) (r .len) (now (w .exit)) (now (desc .exit)) (now (buf .entry)) (now (out .exit))
         ≡ Receive.whole (wholeOf (now (w .entry))) (now (out .entry)) (now (desc .entry)) (now (buf .entry)) ⌝ }
 {
-    let laid = side::whole_receive(w, &mut desc[..], buf, out);
+    let laid = two_words::whole_receive(w, &mut desc[..], buf, out);
     Received {
         code: laid.code,
         len: laid.len,

@@ -1,4 +1,2 @@
 pub mod InWords
-pub mod Wholes
-pub mod TwoWords
 pub mod Left

@@ -1,9 +1,9 @@
--- A side's state as dwords that are lent to a call and changed in place, 260 of them or two: what they mean, and the
--- outcome of such a call.
+-- A side's state as 260 dwords that are lent to a call and changed in place: what they mean, and the outcome of such a
+-- call.
 use Prim.Native.Nat.{ℕ}
 use mathlib.Core.List.{List}
 use lib.ListN.{getD, drop}
-use Rattle.channel.specs.State.{State, state, idleAt}
+use Rattle.channel.specs.State.{State, state}
 use Rattle.channel.specs.Outcome.{Outcome}
 use Rattle.channel.specs.Opening.{Opening}
 
@@ -18,15 +18,3 @@ inWords c l w d b o = record { code = c; len = l; next = stateOf w; desc = d; bu
 -- the same of an opening, with both sides' words
 abbrev pub openedWords : ℕ → List ℕ → List ℕ → List ℕ → List ℕ → Opening
 openedWords c s r d b = record { code = c; sender = stateOf s; receiver = stateOf r; desc = d; buf = b }
-
--- a side that makes whole calls only is idle between them, and an idle state, 'L = 0, moved = 0, copy all zeros', has
--- only N and the own offset to keep: these two dwords and no others
-unfoldable pub wholeOf : List ℕ → State
-wholeOf w = idleAt (getD w 0 0) (getD w 1 0)
-
--- the outcome of its call, and of an opening of two such sides
-abbrev pub inTwoWords : ℕ → ℕ → List ℕ → List ℕ → List ℕ → List ℕ → Outcome
-inTwoWords c l w d b o = record { code = c; len = l; next = wholeOf w; desc = d; buf = b; out = o }
-
-abbrev pub openedTwoWords : ℕ → List ℕ → List ℕ → List ℕ → List ℕ → Opening
-openedTwoWords c s r d b = record { code = c; sender = wholeOf s; receiver = wholeOf r; desc = d; buf = b }

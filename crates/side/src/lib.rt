@@ -1,14 +1,12 @@
-// The calls of a channel on a state of 260 dwords (n, own, len, moved, and the copy), or, for a side that makes whole
-// calls only, of two (n and own), which is lent to the call and changed in place: for callers that keep a side's state
-// in memory of their own, as the C interface does. Held to the same definitions as the states by value.
+// The calls of a channel on a state of 260 dwords (n, own, len, moved, and the copy), which is lent to the call and
+// changed in place: for callers that keep a side's state in memory of their own, as the C interface does. Held to the
+// same definitions as the states by value. Sides of two words stand in `two_words`.
 mod opening;
 mod receiving;
 mod sending;
-mod whole;
 mod words;
 
 pub use opening::open_channel;
-pub use receiving::Laid;
 pub use receiving::receive;
 pub use receiving::receive_copy;
 pub use receiving::receive_copy_all;
@@ -19,8 +17,4 @@ pub use sending::send_look;
 pub use sending::send_publish;
 pub use sending::send_store;
 pub use sending::send_store_all;
-pub use whole::WHOLE_WORDS;
-pub use whole::whole_open;
-pub use whole::whole_receive;
-pub use whole::whole_send;
 pub use words::STATE_WORDS;

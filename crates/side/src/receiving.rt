@@ -8,16 +8,9 @@ ghost use Rattle.runs.specs.Buffer.{window};
 ghost use Rattle.runs.specs.TwoRuns.{withRun};
 ghost use Rattle.channel.specs.Receive;
 ghost use Rattle.side.specs.Words.{stateOf, inWords};
-use crate::words::COPY;
-use crate::words::HEADER;
-use crate::words::LEN;
-use crate::words::MOVED;
-use crate::words::OWN;
-use crate::words::SECOND;
+use crate::words;
 use crate::words::STATE_WORDS;
-use crate::words::counts_of;
-use crate::words::idle_at;
-use crate::words::is_idle;
+use channel::Laid;
 use channel::publish_number;
 use channel::receiving_number;
 use message::dword_at;
@@ -25,22 +18,16 @@ use ring::need;
 use ring::refusal;
 use runs::past;
 
-// What a receive answers: the number, and the length L of the message laid, 0 where none is.
-pub struct Laid {
-    pub code: u32,
-    pub len: usize,
-}
-
 // A whole receive.
 pub fn receive(w: &mut [u32; STATE_WORDS], desc: &mut [u32], buf: &[u32], out: &mut [u32]) -> Laid
     ensures { λ r. ⌜ inWords (r .code) (r .len) (now (w .exit)) (now (desc .exit)) (now (buf .entry)) (now (out .exit))
         ≡ Receive.whole (stateOf (now (w .entry))) (now (out .entry)) (now (desc .entry)) (now (buf .entry)) ⌝ }
 {
-    let s = counts_of(&w[..]);
-    let fits = is_idle(&w[..], s, buf.len());
+    let s = words::counts_of(&w[..]);
+    let fits = words::is_idle(&w[..], s, buf.len());
     let end = ring::whole_receive(fits, s.own, desc, buf, out);
     if (end.code == 0) | (end.code == refusal::MALFORMED) {
-        w[OWN] = end.own as u32;
+        w[words::OWN] = end.own as u32;
     }
     Laid {
         code: end.code,
@@ -54,8 +41,8 @@ pub fn receive_look(w: &mut [u32; STATE_WORDS], desc: &mut [u32], buf: &[u32]) -
         ≡ Receive.look (stateOf (now (w .entry))) (now (desc .entry)) (now (buf .entry)) ⌝ }
 {
     let n = buf.len();
-    let s = counts_of(&w[..]);
-    let fits = is_idle(&w[..], s, n);
+    let s = words::counts_of(&w[..]);
+    let fits = words::is_idle(&w[..], s, n);
     let judged = ring::receive_decision(fits, s.own, &desc[..], buf);
     let code = judged.code;
     if code != 0 {
@@ -63,9 +50,9 @@ pub fn receive_look(w: &mut [u32; STATE_WORDS], desc: &mut [u32], buf: &[u32]) -
         return code;
     }
     let header = judged.header;
-    w[LEN] = message::total_length(header) as u32;
-    w[MOVED] = 1;
-    w[HEADER] = header;
+    w[words::LEN] = message::total_length(header) as u32;
+    w[words::MOVED] = 1;
+    w[words::HEADER] = header;
     0
 }
 
@@ -75,15 +62,15 @@ pub fn receive_copy(w: &mut [u32; STATE_WORDS], desc: &[u32], buf: &[u32]) -> u3
         ≡ Receive.move (stateOf (now (w .entry))) (now (desc .entry)) (now (buf .entry)) ⌝ }
 {
     let n = buf.len();
-    let s = counts_of(&w[..]);
+    let s = words::counts_of(&w[..]);
     let moved = s.moved;
-    let rest = need(moved < s.len, refusal::OUT_OF_TURN, 0);
-    let code = receiving_number(s, w[HEADER], desc.len(), n, rest);
+    let later = need(moved < s.len, refusal::OUT_OF_TURN, 0);
+    let code = receiving_number(s, w[words::HEADER], desc.len(), n, later);
     if code != 0 {
         return code;
     }
-    w[COPY + moved] = dword_at(buf, past(s.own, moved, n));
-    w[MOVED] = (moved + 1) as u32;
+    w[words::COPY + moved] = dword_at(buf, past(s.own, moved, n));
+    w[words::MOVED] = (moved + 1) as u32;
     0
 }
 
@@ -95,8 +82,8 @@ fn copy_left(w: &mut [u32], buf: &[u32], own: usize, moved: usize, len: usize)
         ≡ withRun (now (w .entry)) (4 + moved)
         (window (now (buf .entry)) (length (now (buf .entry))) (own + moved) (len - moved)) ⌝ }
 {
-    let from = COPY + moved;
-    let to = COPY + len;
+    let from = words::COPY + moved;
+    let to = words::COPY + len;
     runs::load_dwords(&mut w[from..to], buf, past(own, moved, buf.len()));
 }
 
@@ -106,15 +93,15 @@ pub fn receive_copy_all(w: &mut [u32; STATE_WORDS], desc: &[u32], buf: &[u32]) -
         ≡ Receive.moveAll (stateOf (now (w .entry))) (now (desc .entry)) (now (buf .entry)) ⌝ }
 {
     let n = buf.len();
-    let s = counts_of(&w[..]);
+    let s = words::counts_of(&w[..]);
     let moved = s.moved;
     let len = s.len;
-    let code = receiving_number(s, w[HEADER], desc.len(), n, 0);
+    let code = receiving_number(s, w[words::HEADER], desc.len(), n, 0);
     if code != 0 {
         return code;
     }
     copy_left(&mut w[..], buf, s.own, moved, len);
-    w[MOVED] = len as u32;
+    w[words::MOVED] = len as u32;
     0
 }
 
@@ -134,7 +121,7 @@ fn lay(
     ensures { λ r. ⌜ (now (out .exit) ≡ take len (stateOf (now (w .entry)) .copy) ++ drop len (now (out .entry)))
         × (r ≡ Buffer.past n own len) × (r < 16384) ⌝ }
 {
-    let copy = &w[COPY..];
+    let copy = &w[words::COPY..];
     runs::lay_copy(out, header, second, &copy[2..len], own, n)
 }
 
@@ -144,9 +131,9 @@ fn publish_at(w: &mut [u32; STATE_WORDS], desc: &mut [u32], n: usize, out: &mut 
         → inWords (r .code) (r .len) (now (w .exit)) (now (desc .exit)) b (now (out .exit))
         ≡ Receive.publish (stateOf (now (w .entry))) (now (out .entry)) (now (desc .entry)) b) ⌝ }
 {
-    let s = counts_of(&w[..]);
-    let header = w[HEADER];
-    let second = w[SECOND];
+    let s = words::counts_of(&w[..]);
+    let header = w[words::HEADER];
+    let second = w[words::SECOND];
     let code = publish_number(s, header, second, out.len(), desc.len(), n);
     if (code != 0) & (code != refusal::MALFORMED) {
         return Laid { code, len: 0 };
@@ -155,7 +142,7 @@ fn publish_at(w: &mut [u32; STATE_WORDS], desc: &mut [u32], n: usize, out: &mut 
     if code == refusal::MALFORMED {
         let head = past(s.own, len, n) as u32;
         ring::publish_head(desc, head);
-        idle_at(&mut w[..], head);
+        words::idle_at(&mut w[..], head);
         return Laid {
             code: refusal::MALFORMED,
             len: 0,
@@ -163,7 +150,7 @@ fn publish_at(w: &mut [u32; STATE_WORDS], desc: &mut [u32], n: usize, out: &mut 
     }
     let head = lay(out, header, second, &w[..], len, s.own, n) as u32;
     ring::publish_head(desc, head);
-    idle_at(&mut w[..], head);
+    words::idle_at(&mut w[..], head);
     Laid { code: 0, len }
 }
 

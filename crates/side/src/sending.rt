@@ -6,17 +6,8 @@ ghost use lib.ListN.{length, getD, take, drop};
 ghost use Rattle.runs.specs.Buffer.{stored};
 ghost use Rattle.channel.specs.Send;
 ghost use Rattle.side.specs.Words.{stateOf, inWords};
-use crate::words::COPY;
-use crate::words::HEADER;
-use crate::words::MOVED;
-use crate::words::OWN;
-use crate::words::SECOND;
+use crate::words;
 use crate::words::STATE_WORDS;
-use crate::words::copy_dword;
-use crate::words::counts_of;
-use crate::words::idle_at;
-use crate::words::is_idle;
-use crate::words::load;
 use channel::sending_number;
 use message::dword_at;
 use runs::past;
@@ -26,11 +17,11 @@ pub fn send(w: &mut [u32; STATE_WORDS], desc: &mut [u32], buf: &mut [u32], msg: 
     ensures { λ r. ⌜ inWords r 0 (now (w .exit)) (now (desc .exit)) (now (buf .exit)) []
         ≡ Send.whole (stateOf (now (w .entry))) (now (msg .entry)) (now (desc .entry)) (now (buf .entry)) ⌝ }
 {
-    let s = counts_of(&w[..]);
-    let fits = is_idle(&w[..], s, buf.len());
+    let s = words::counts_of(&w[..]);
+    let fits = words::is_idle(&w[..], s, buf.len());
     let end = ring::whole_send(fits, s.own, desc, buf, msg);
     if end.code == 0 {
-        w[OWN] = end.own as u32;
+        w[words::OWN] = end.own as u32;
     }
     end.code
 }
@@ -42,8 +33,8 @@ pub fn send_look(w: &mut [u32; STATE_WORDS], desc: &mut [u32], buf: &[u32], msg:
         ≡ Send.look (stateOf (now (w .entry))) (now (msg .entry)) (now (desc .entry)) (now (buf .entry)) ⌝ }
 {
     let n = buf.len();
-    let s = counts_of(&w[..]);
-    let fits = is_idle(&w[..], s, n);
+    let s = words::counts_of(&w[..]);
+    let fits = words::is_idle(&w[..], s, n);
     let header = dword_at(msg, 0);
     let word = dword_at(msg, 1);
     let code = ring::send_decision(fits, s.own, &desc[..], n, msg.len(), header, word);
@@ -51,7 +42,7 @@ pub fn send_look(w: &mut [u32; STATE_WORDS], desc: &mut [u32], buf: &[u32], msg:
         ring::mark(desc, code);
         return code;
     }
-    load(&mut w[..], header, word, &msg[2..]);
+    words::load(&mut w[..], header, word, &msg[2..]);
     0
 }
 
@@ -61,17 +52,17 @@ pub fn send_store(w: &mut [u32; STATE_WORDS], desc: &[u32], buf: &mut [u32]) -> 
         ≡ Send.move (stateOf (now (w .entry))) (now (desc .entry)) (now (buf .entry)) ⌝ }
 {
     let n = buf.len();
-    let s = counts_of(&w[..]);
+    let s = words::counts_of(&w[..]);
     let moved = s.moved;
-    let header = w[HEADER];
-    let word = w[SECOND];
+    let header = w[words::HEADER];
+    let word = w[words::SECOND];
     let code = sending_number(s, header, word, desc.len(), n, moved < s.len);
     if code != 0 {
         return code;
     }
-    let dword = copy_dword(&w[..], header, word, moved);
+    let dword = words::copy_dword(&w[..], header, word, moved);
     ring::put(buf, past(s.own, moved, n), dword);
-    w[MOVED] = (moved + 1) as u32;
+    w[words::MOVED] = (moved + 1) as u32;
     0
 }
 
@@ -94,7 +85,7 @@ fn store_left(
         (take (len - moved) (drop moved (stateOf (now (w .entry)) .copy))) ⌝ }
 {
     let n = buf.len();
-    let copy = &w[COPY..];
+    let copy = &w[words::COPY..];
     if moved == 0 {
         runs::store_message(buf, own, header, word, &copy[2..len]);
         return;
@@ -113,17 +104,17 @@ pub fn send_store_all(w: &mut [u32; STATE_WORDS], desc: &[u32], buf: &mut [u32])
         ≡ Send.moveAll (stateOf (now (w .entry))) (now (desc .entry)) (now (buf .entry)) ⌝ }
 {
     let n = buf.len();
-    let s = counts_of(&w[..]);
+    let s = words::counts_of(&w[..]);
     let moved = s.moved;
     let len = s.len;
-    let header = w[HEADER];
-    let word = w[SECOND];
+    let header = w[words::HEADER];
+    let word = w[words::SECOND];
     let code = sending_number(s, header, word, desc.len(), n, true);
     if code != 0 {
         return code;
     }
     store_left(buf, &w[..], header, word, s.own, moved, len);
-    w[MOVED] = len as u32;
+    w[words::MOVED] = len as u32;
     0
 }
 
@@ -133,14 +124,21 @@ fn publish_at(w: &mut [u32; STATE_WORDS], desc: &mut [u32], n: usize) -> u32
         → inWords r 0 (now (w .exit)) (now (desc .exit)) b []
         ≡ Send.publish (stateOf (now (w .entry))) (now (desc .entry)) b) ⌝ }
 {
-    let s = counts_of(&w[..]);
-    let code = sending_number(s, w[HEADER], w[SECOND], desc.len(), n, s.len <= s.moved);
+    let s = words::counts_of(&w[..]);
+    let code = sending_number(
+        s,
+        w[words::HEADER],
+        w[words::SECOND],
+        desc.len(),
+        n,
+        s.len <= s.moved,
+    );
     if code != 0 {
         return code;
     }
     let tail = past(s.own, s.len, n) as u32;
     ring::publish_tail(desc, tail);
-    idle_at(&mut w[..], tail);
+    words::idle_at(&mut w[..], tail);
     0
 }
 

@@ -8,7 +8,7 @@ use borrow.Author.Needs.{needs}
 use Rattle.channel.specs.declared.state.Counts.{Counts}
 use Rattle.side.specs.Words.{stateOf}
 use Rattle.side.proofs.InWords.{idle-own, idle-words}
-use Rattle.side.proofs.Wholes.{WholeReceived, whole-received}
+use Rattle.channel.proofs.Wholes.{WholeReceived, whole-received}
 use Rattle.side.proofs.receiving.receive.Statement.{statement}
 use Rattle.side.proofs.receiving.receive.Tie as tie
 

@@ -29,8 +29,8 @@ number :
     q .receiving-number .result ≡ Receive.moveNumber (stateOf (now (a .w))) (now (a .desc)) (now (a .buf))
 unfolding Receive.moveNumber
 number q =
-    let rest = q .before .before .need .ensures in
-    rw (rest, after-counts q .counts-of .ensures, words-receiving) at (q .receiving-number .ensures)
+    let later = q .before .before .need .ensures in
+    rw (later, after-counts q .counts-of .ensures, words-receiving) at (q .receiving-number .ensures)
 
 returns : tie.Need-returns
 unfolding Receive.moveBy

@@ -9,7 +9,7 @@ use borrow.Author.Tests.{ne-eqb}
 use Rattle.channel.specs.declared.state.Counts.{Counts}
 use Rattle.side.specs.Words.{stateOf}
 use Rattle.side.proofs.InWords.{idle-own, idle-words}
-use Rattle.side.proofs.Wholes.{WholeSent, whole-sent}
+use Rattle.channel.proofs.Wholes.{WholeSent, whole-sent}
 use Rattle.side.proofs.sending.send.Statement.{statement}
 use Rattle.side.proofs.sending.send.Tie as tie
 

@@ -1,12 +1,12 @@
--- `whole::whole_open` meets its contract. Assumes nothing.
+-- `whole_open` meets its contract. Assumes nothing.
 use mathlib.Core.Path.{sym, _∙_}
 use native.Mathlib.Omega.{arith}
 use borrow.Author.Tests.{ne-eqb}
 use Rattle.channel.specs.Opening.{openBy}
 use Rattle.channel.proofs.Going.{open-sixteen, open-high}
 use borrow.Author.Needs.{needs}
-use Rattle.side.proofs.whole.whole_open.Statement.{statement}
-use Rattle.side.proofs.whole.whole_open.Tie as tie
+use Rattle.two_words.proofs.whole_open.Statement.{statement}
+use Rattle.two_words.proofs.whole_open.Tie as tie
 
 returns : tie.Need-returns
 unfolding openBy

@@ -1,5 +1,6 @@
-// Sides that make whole calls only, in two words each: between its calls such a side is idle, so that there is no copy
-// to keep and no zeros to test.
+// Sides that make whole calls only, in two words each, which are lent to the call and changed in place: between its
+// calls such a side is idle, so that there is no copy to keep and no zeros to test. Held to the same definitions as the
+// states by value.
 ghost use mathlib.Core.Path.{_≡_};
 ghost use mathlib.Core.List.{[]};
 ghost use lib.ListN.{length};
@@ -7,17 +8,19 @@ ghost use Rattle.channel.specs.State.{idle, idleAt};
 ghost use Rattle.channel.specs.Opening.{opening};
 ghost use Rattle.channel.specs.Send;
 ghost use Rattle.channel.specs.Receive;
-ghost use Rattle.side.specs.Words.{wholeOf, inTwoWords, openedTwoWords};
-use crate::receiving::Laid;
-use crate::words::N;
-use crate::words::OWN;
+ghost use Rattle.two_words.specs.TwoWords.{wholeOf, inTwoWords, openedTwoWords};
+use channel::Laid;
 use channel::clear;
 use channel::open_number;
 use ring::refusal;
 use ring::wide;
 
-// The words of such a side: n and own.
+// The words of such a side, and which of them holds its N and its own offset.
 pub const WHOLE_WORDS: usize = 2;
+
+const N: usize = 0;
+
+const OWN: usize = 1;
 
 // Such a side's numbers: the N that it was made for, and its own offset.
 pub(crate) struct Whole {

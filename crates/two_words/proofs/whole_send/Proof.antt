@@ -1,14 +1,14 @@
--- `whole::whole_send` meets its contract: its two words say whether it fits, and an accepted call moves its own
+-- `whole_send` meets its contract: its two words say whether it fits, and an accepted call moves its own
 -- offset. Assumes nothing.
 use native.Mathlib.Omega.{arith}
 use denote.Ref.{now}
 use borrow.Author.Needs.{needs}
 use borrow.Author.Tests.{ne-eqb}
-use Rattle.side.specs.Words.{wholeOf}
-use Rattle.side.proofs.TwoWords.{own-whole}
-use Rattle.side.proofs.Wholes.{WholeSent, whole-sent}
-use Rattle.side.proofs.whole.whole_send.Statement.{statement}
-use Rattle.side.proofs.whole.whole_send.Tie as tie
+use Rattle.two_words.specs.TwoWords.{wholeOf}
+use Rattle.two_words.proofs.Laws.{own-whole}
+use Rattle.channel.proofs.Wholes.{WholeSent, whole-sent}
+use Rattle.two_words.proofs.whole_send.Statement.{statement}
+use Rattle.two_words.proofs.whole_send.Tie as tie
 
 -- where the send at once is made, and where the call starts
 abbrev after-whole : tie.After-struct-known → tie.After-whole-send

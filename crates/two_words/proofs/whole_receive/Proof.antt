@@ -1,13 +1,13 @@
--- `whole::whole_receive` meets its contract: its two words say whether it fits, and an accepted call moves its own
+-- `whole_receive` meets its contract: its two words say whether it fits, and an accepted call moves its own
 -- offset. Assumes nothing.
 use native.Mathlib.Omega.{arith}
 use denote.Ref.{now}
 use borrow.Author.Needs.{needs}
-use Rattle.side.specs.Words.{wholeOf}
-use Rattle.side.proofs.TwoWords.{own-whole}
-use Rattle.side.proofs.Wholes.{WholeReceived, whole-received}
-use Rattle.side.proofs.whole.whole_receive.Statement.{statement}
-use Rattle.side.proofs.whole.whole_receive.Tie as tie
+use Rattle.two_words.specs.TwoWords.{wholeOf}
+use Rattle.two_words.proofs.Laws.{own-whole}
+use Rattle.channel.proofs.Wholes.{WholeReceived, whole-received}
+use Rattle.two_words.proofs.whole_receive.Statement.{statement}
+use Rattle.two_words.proofs.whole_receive.Tie as tie
 
 -- where the receive at once is made, and where the call starts
 abbrev after-whole : tie.After-struct-known2 → tie.After-whole-receive

@@ -8,7 +8,7 @@ use lib.ListN.{length, set}
 use lib.Dec.{eqb, ltb}
 use Rattle.message.proofs.Tests.{cases}
 use Rattle.channel.specs.State.{zeros, allZero, idleAt, idle}
-use Rattle.side.specs.Words.{wholeOf}
+use Rattle.two_words.specs.TwoWords.{wholeOf}
 
 -- an idle state fits where it was made for this N and its own offset is below it
 pub fits-whole : (n made own : ℕ) → (eqb made n && ltb own n) ≡ idle n (idleAt made own)

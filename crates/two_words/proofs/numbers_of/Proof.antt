@@ -1,8 +1,8 @@
--- `whole::numbers_of` meets its contract. Assumes nothing.
+-- `numbers_of` meets its contract. Assumes nothing.
 use borrow.Author.Needs.{needs}
-use Rattle.side.specs.Words.{wholeOf}
-use Rattle.side.proofs.whole.numbers_of.Statement.{statement}
-use Rattle.side.proofs.whole.numbers_of.Tie as tie
+use Rattle.two_words.specs.TwoWords.{wholeOf}
+use Rattle.two_words.proofs.numbers_of.Statement.{statement}
+use Rattle.two_words.proofs.numbers_of.Tie as tie
 
 returns : tie.Need-returns
 unfolding wholeOf

@@ -1,9 +1,9 @@
--- `whole::make_whole` meets its contract. Assumes nothing.
+-- `make_whole` meets its contract. Assumes nothing.
 use denote.Ref.{now}
 use borrow.Author.Needs.{needs}
-use Rattle.side.proofs.TwoWords.{made-whole}
-use Rattle.side.proofs.whole.make_whole.Statement.{statement}
-use Rattle.side.proofs.whole.make_whole.Tie as tie
+use Rattle.two_words.proofs.Laws.{made-whole}
+use Rattle.two_words.proofs.make_whole.Statement.{statement}
+use Rattle.two_words.proofs.make_whole.Tie as tie
 
 returns : tie.Need-returns
 returns c = made-whole (c .args .n) (now (c .args .w)) (search needs)
