@@ -12,7 +12,7 @@ use denote.Ref.{now}
 use Rattle.firmware.specs.Bytes.{then}
 use Rattle.firmware.specs.Css
 use Rattle.firmware.specs.Cpd
-use Rattle.firmware.specs.Inside.{hucName, hucBlob, hucLocated, hucNumber, hucPlace}
+use Rattle.firmware.specs.Inside.{hucName, hucBlob, hucLocated, hucNumber, hucSpan}
 use Rattle.firmware.specs.Inside.{hucTruncated, manifestName, manifestNumber, partNamed, within}
 use Rattle.firmware.specs.Version.{cssReading, hucReading, manifestReading, manifestVersion, reading}
 use Rattle.firmware.specs.Private.{outer}
@@ -149,8 +149,8 @@ directories =
       same-number = λ b name. refl;
       not-truncated = λ b name. refl;
       refused = λ b name z. empty-at-start (Cpd.number b name) false _ (rw (name-nowhere b name (ne-eqb (Cpd.number b name) 0 z)));
-      within = λ b name. located-ends (length b) (Cpd.place b name) (cpd-lies b name) (Cpd.number b name) false refl;
-      very-bytes = λ name blob part. very-bytes (Cpd.number (now blob) name) false (Cpd.place (now blob) name) blob part;
+      within = λ b name. located-ends (length b) (Cpd.part b name) (cpd-lies b name) (Cpd.number b name) false refl;
+      very-bytes = λ name blob part. very-bytes (Cpd.number (now blob) name) false (Cpd.part (now blob) name) blob part;
       directory-exactly = λ b. (directory-is b, directory-passes b);
       entry-count = entry-count;
       entry = λ b i. (entry-is b i, entry-passes b i);
@@ -173,9 +173,9 @@ inside =
       huc-outside-reading = λ b z. let n = ne-eqb (Cpd.number b hucName) 0 z in (rw n, rw (n, n));
       huc-inside = huc-inside;
       huc-answer = λ which b. (refl, refl);
-      huc-within = λ which b. located-ends (length b) (hucPlace which b) (huc-lies b which) (hucNumber b) (hucTruncated b) refl;
+      huc-within = λ which b. located-ends (length b) (hucSpan which b) (huc-lies b which) (hucNumber b) (hucTruncated b) refl;
       huc-very-bytes = λ which blob part.
-          very-bytes (hucNumber (now blob)) (hucTruncated (now blob)) (hucPlace which (now blob)) blob part;
+          very-bytes (hucNumber (now blob)) (hucTruncated (now blob)) (hucSpan which (now blob)) blob part;
       manifest-outside = λ b z. let n = ne-eqb (Cpd.number b manifestName) 0 z in (rw n, rw (n, n));
       manifest-inside = manifest-inside;
     }

@@ -83,12 +83,12 @@ unfolding Cpd.entriesOf
 entry-count b e = rw e
 
 pub entry-name :
-    (b : List ℕ) (i : ℕ) → IsDirectory b → i < Cpd.count b → Cpd.namePlace b i ≡ span (entryAt b i) (entryAt b i + 12)
-unfolding Cpd.namePlace
+    (b : List ℕ) (i : ℕ) → IsDirectory b → i < Cpd.count b → Cpd.nameSpan b i ≡ span (entryAt b i) (entryAt b i + 12)
+unfolding Cpd.nameSpan
 entry-name b i x l = rw (entry-count b (directory-passes b x), lt-ltb i (Cpd.count b) l)
 
-pub no-entry-name : (b : List ℕ) (i : ℕ) → (IsDirectory b → i < Cpd.count b → ⊥) → Cpd.namePlace b i ≡ nowhere
-unfolding Cpd.namePlace Cpd.entriesOf
+pub no-entry-name : (b : List ℕ) (i : ℕ) → (IsDirectory b → i < Cpd.count b → ⊥) → Cpd.nameSpan b i ≡ nowhere
+unfolding Cpd.nameSpan Cpd.entriesOf
 no-entry-name b i f =
     cases (eqb (Cpd.directoryNumber b) 0)
     (λ t.

@@ -23,11 +23,11 @@ use Rattle.agreement.specs.Images.{At, EmptyAtStart, ImageParts, Images,
 pub empty-at-start : (number : ℕ) (t : Bool) (l : Located) → l ≡ placed number t nowhere → EmptyAtStart number l
 empty-at-start number t l q = rw q (record { code = refl; at-start = refl; empty = refl })
 
--- what is handed back for a place is the located bytes, where they lie
+-- what is handed back for a span is the located bytes, where they lie
 pub very-bytes :
     (number : ℕ) (t : Bool) (p : Span) (blob part : RefT (List ℕ)) → PartOf blob p part
     → VeryBytes blob (placed number t p) part
-very-bytes number t p blob part x = record { bytes = x .same-bytes; block = x .same-block; place = x .same-place }
+very-bytes number t p blob part x = record { bytes = x .same-bytes; block = x .same-block; start = x .same-start }
 
 -- an image that is accepted
 module _ (b : List ℕ) (z : Css.number b ≡ 0) where
@@ -37,7 +37,7 @@ module _ (b : List ℕ) (z : Css.number b ≡ 0) where
   facts : Accepted (length b) (Css.sizes b)
   facts = css-accepted b z
 
-  -- a component at its place, and one that is shown where the blob has all of the image
+  -- a component where it lies, and one that is shown where the blob has all of the image
   abbrev AtItsPlace : Component → Type 0
   AtItsPlace which = Css.located which b ≡ placed 0 (Css.truncated b) (Css.spanOf which (Css.sizes b))
 
@@ -46,11 +46,11 @@ module _ (b : List ℕ) (z : Css.number b ≡ 0) where
 
   -- a component that is shown, and one that is not
   located-shown : (which : Component) → Css.shown which b ≡ true → AtItsPlace which
-  unfolding Css.place
+  unfolding Css.part
   located-shown which t = rw (z, t)
 
   located-unshown : (which : Component) → Css.shown which b ≡ false → Css.located which b ≡ placed 0 (Css.truncated b) nowhere
-  unfolding Css.place
+  unfolding Css.part
   located-unshown which t = rw (z, t)
 
   front : (which : Component) → Css.shown which b ≡ Css.isImage b → AtItsPlace which
@@ -170,6 +170,6 @@ images =
       same-reading = λ b. refl;
       refused = λ which b z. empty-at-start (Css.number b) false _ (image-nowhere b which (ne-eqb (Css.number b) 0 z));
       no-version = λ b z. rw (ne-eqb (Css.number b) 0 z);
-      within = λ which b. located-ends (length b) (Css.place which b) (css-lies b which) (Css.number b) (Css.truncated b) refl;
-      very-bytes = λ which blob part. very-bytes (Css.number (now blob)) (Css.truncated (now blob)) (Css.place which (now blob)) blob part;
+      within = λ which b. located-ends (length b) (Css.part which b) (css-lies b which) (Css.number b) (Css.truncated b) refl;
+      very-bytes = λ which blob part. very-bytes (Css.number (now blob)) (Css.truncated (now blob)) (Css.part which (now blob)) blob part;
     }

@@ -205,7 +205,7 @@ module _ (b name : List ℕ) where
   found-passes x = only-answer (x .i) (x .alone) ∙ rw (le-ltb (length b) (partEnd b (x .i)) (x .part-there))
 
   pub found-located : (x : Found b name) → Cpd.located b name ≡ placed 0 false (Cpd.entryPart b (Cpd.entryStart b (x .i)))
-  unfolding Cpd.place
+  unfolding Cpd.part
   found-located x = simp (found-passes x, first-is (x .i) (x .alone))
 
   pub none-is : Cpd.number b name ≡ 20 → NoneNamed b name

@@ -10,7 +10,7 @@ use denote.Ref.{RefT, now}
 use Rattle.firmware.specs.Bytes.{PartOf, dwordAt, nowhere, span, wordAt}
 use Rattle.firmware.specs.Css
 use Rattle.firmware.specs.Cpd
-use Rattle.firmware.specs.Inside.{manifestName, hucAnswer, hucName, hucNumber, hucLocated, hucPlace}
+use Rattle.firmware.specs.Inside.{manifestName, hucAnswer, hucName, hucNumber, hucLocated, hucSpan}
 use Rattle.firmware.specs.Version.{cssReading, hucReading, manifestReading}
 use Rattle.firmware.specs.declared.css.Component.{Component}
 use Rattle.agreement.specs.Images.{At, EmptyAtStart, VeryBytes, bytesOf, endOf}
@@ -138,7 +138,7 @@ pub record Directories : Type 0 where
   -- what is located lies in the blob, and is handed back as that part of it
   pub within : (b name : List ℕ) → endOf (Cpd.located b name) ≤ length b
   pub very-bytes :
-      (name : List ℕ) (blob part : RefT (List ℕ)) → PartOf blob (Cpd.place (now blob) name) part
+      (name : List ℕ) (blob part : RefT (List ℕ)) → PartOf blob (Cpd.part (now blob) name) part
       → VeryBytes blob (Cpd.located (now blob) name) part
   -- ours, for a list of all entries: how many a directory has, each entry's part, and its twelve name bytes
   pub directory-exactly : (b : List ℕ) → (Cpd.entriesOf b .code ≡ 0) ↔ IsDirectory b
@@ -148,9 +148,9 @@ pub record Directories : Type 0 where
       (b : List ℕ) (i : ℕ) → EntryThere b i → At (offsetAt b (entryAt b i)) (sizeAt b (entryAt b i)) (Cpd.entryLocated b i)
   pub entry-not-truncated : (b : List ℕ) (i : ℕ) → Cpd.entryLocated b i .truncated ≡ false
   pub entry-name :
-      (b : List ℕ) (i : ℕ) → IsDirectory b → i < dwordAt b 4 → Cpd.namePlace b i ≡ span (entryAt b i) (entryAt b i + 12)
+      (b : List ℕ) (i : ℕ) → IsDirectory b → i < dwordAt b 4 → Cpd.nameSpan b i ≡ span (entryAt b i) (entryAt b i + 12)
   pub no-entry-name :
-      (b : List ℕ) (i : ℕ) → (IsDirectory b → i < dwordAt b 4 → ⊥) → Cpd.namePlace b i ≡ nowhere
+      (b : List ℕ) (i : ℕ) → (IsDirectory b → i < dwordAt b 4 → ⊥) → Cpd.nameSpan b i ≡ nowhere
   -- and whether it has a name that may be sought
   pub entry-has : (b name : List ℕ) (i : ℕ) → (Cpd.entryHas b name i ≡ true) ↔ EntryNamed b name i
 
@@ -175,7 +175,7 @@ pub record InsideDirectories : Type 0 where
       → (hucAnswer b .code ≡ hucLocated which b .code) × (hucAnswer b .truncated ≡ hucLocated which b .truncated)
   pub huc-within : (which : Component) (b : List ℕ) → endOf (hucLocated which b) ≤ length b
   pub huc-very-bytes :
-      (which : Component) (blob part : RefT (List ℕ)) → PartOf blob (hucPlace which (now blob)) part
+      (which : Component) (blob part : RefT (List ℕ)) → PartOf blob (hucSpan which (now blob)) part
       → VeryBytes blob (hucLocated which (now blob)) part
   pub manifest-outside :
       (b : List ℕ) → (Cpd.number b manifestName ≡ 0 → ⊥)

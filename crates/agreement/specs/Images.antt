@@ -38,7 +38,7 @@ bytesOf b l = take (l .len) (drop (l .start) b)
 pub record VeryBytes (blob : RefT (List ℕ)) (l : Located) (part : RefT (List ℕ)) : Type 0 where
   pub bytes : now part ≡ bytesOf (now blob) l
   pub block : ptr part .0 ≡ ptr blob .0
-  pub place : ptr part .1 ≡ l .start + ptr blob .1
+  pub start : ptr part .1 ≡ l .start + ptr blob .1
 
 -- 'Dwords: 1 = h (all that is not uCode), 6 = s (all), 7 = k (RSA), 8 = m (modulus), 9 = e (exponent), 16 = version';
 -- 'Sizes are in dwords.'
@@ -109,5 +109,5 @@ pub record Images : Type 0 where
   pub within : (which : Component) (b : List ℕ) → endOf (Css.located which b) ≤ length b
   -- 'Each component is handed back as that part of the lent blob', by each function whose contract has it
   pub very-bytes :
-      (which : Component) (blob part : RefT (List ℕ)) → PartOf blob (Css.place which (now blob)) part
+      (which : Component) (blob part : RefT (List ℕ)) → PartOf blob (Css.part which (now blob)) part
       → VeryBytes blob (Css.located which (now blob)) part

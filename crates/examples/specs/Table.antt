@@ -56,8 +56,8 @@ abbrev pub opens : State → State → List ℕ → List ℕ → Opening
 opens s r d b = record { code = 0; sender = s; receiver = r; desc = d; buf = b }
 
 -- a copy with these dwords in front
-abbrev pub padded : List ℕ → List ℕ
-padded front = front ++ replicate (256 - length front) 0
+abbrev pub copyOf : List ℕ → List ℕ
+copyOf front = front ++ replicate (256 - length front) 0
 
 -- free by a descriptor's HEAD and TAIL
 abbrev pub freeBy : List ℕ → ℕ
@@ -76,7 +76,7 @@ emptyPart = (0, 0)
 
 -- a component of an image
 abbrev pub part : Component → List ℕ → Part
-part which b = (Css.place which b .from, Css.place which b .to)
+part which b = (Css.part which b .from, Css.part which b .to)
 
 -- an image's number, whether it is truncated, its uCode, RSA, modulus and exponent
 abbrev pub css : List ℕ → ℕ × Bool × Part × Part × Part × Part
@@ -84,7 +84,7 @@ css b = (Css.answer b .code, Css.answer b .truncated, part Ucode b, part Rsa b, 
 
 -- the number of seeking `huc_fw` in a directory, and its part
 abbrev pub cpd : List ℕ → ℕ × Part
-cpd b = (Cpd.number b hucName, (Cpd.place b hucName .from, Cpd.place b hucName .to))
+cpd b = (Cpd.number b hucName, (Cpd.part b hucName .from, Cpd.part b hucName .to))
 
 -- entries of those two names, the manifest's part at byte 0
 abbrev pub huc : ℕ → ℕ → List ℕ
@@ -222,17 +222,17 @@ table =
     is receives 13 0 (idleAt 1024 10) (descriptorWith 10 10 0) (bufferOf (twoDwords 0x40AB4601)) (untouched 257))
     -- Ours: all the stores that are left of a message of 3 dwords, with one stored and with all of them; an idle side
     -- is refused
-    ∷ (Send.moveAll (state 1024 8 3 1 (padded (dwords 3))) (descriptorWith 8 8 0) buffer
-    is accepted (state 1024 8 3 3 (padded (dwords 3))) (descriptorWith 8 8 0) (bufferOf (0xBBBBBBBB ∷ 0 ∷ 2 ∷ [])))
-    ∷ (Send.moveAll (state 1024 8 3 3 (padded (dwords 3))) (descriptorWith 8 8 0) buffer
-    is accepted (state 1024 8 3 3 (padded (dwords 3))) (descriptorWith 8 8 0) buffer)
+    ∷ (Send.moveAll (state 1024 8 3 1 (copyOf (dwords 3))) (descriptorWith 8 8 0) buffer
+    is accepted (state 1024 8 3 3 (copyOf (dwords 3))) (descriptorWith 8 8 0) (bufferOf (0xBBBBBBBB ∷ 0 ∷ 2 ∷ [])))
+    ∷ (Send.moveAll (state 1024 8 3 3 (copyOf (dwords 3))) (descriptorWith 8 8 0) buffer
+    is accepted (state 1024 8 3 3 (copyOf (dwords 3))) (descriptorWith 8 8 0) buffer)
     ∷ (Send.moveAll (idleAt 1024 8) (descriptorWith 8 8 0) buffer is refused 3 (idleAt 1024 8) (descriptorWith 8 8 0) buffer [])
     -- Ours: all the copies that are left behind the header, of a message of 3 dwords and of one of a single dword,
     -- which has none
-    ∷ (Receive.moveAll (state 1024 8 3 1 (padded (0x12340002 ∷ []))) (descriptorWith 8 11 0) (bufferOf (dwords 3))
-    is accepted (state 1024 8 3 3 (padded (dwords 3))) (descriptorWith 8 11 0) (bufferOf (dwords 3)))
-    ∷ (Receive.moveAll (state 1024 8 1 1 (padded (0x12340000 ∷ []))) (descriptorWith 8 9 0) (bufferWith 0x12340000)
-    is accepted (state 1024 8 1 1 (padded (0x12340000 ∷ []))) (descriptorWith 8 9 0) (bufferWith 0x12340000))
+    ∷ (Receive.moveAll (state 1024 8 3 1 (copyOf (0x12340002 ∷ []))) (descriptorWith 8 11 0) (bufferOf (dwords 3))
+    is accepted (state 1024 8 3 3 (copyOf (dwords 3))) (descriptorWith 8 11 0) (bufferOf (dwords 3)))
+    ∷ (Receive.moveAll (state 1024 8 1 1 (copyOf (0x12340000 ∷ []))) (descriptorWith 8 9 0) (bufferWith 0x12340000)
+    is accepted (state 1024 8 1 1 (copyOf (0x12340000 ∷ []))) (descriptorWith 8 9 0) (bufferWith 0x12340000))
     -- 'P k 64, m 64, e 1, h 161, s 1,161: ..'
     ∷ (map (Css.headerDword (image 4644)) (7 ∷ 8 ∷ 9 ∷ 1 ∷ 6 ∷ []) is 64 ∷ 64 ∷ 1 ∷ 161 ∷ 1161 ∷ [])
     -- Ours: the blobs have as many bytes as the lines below say.

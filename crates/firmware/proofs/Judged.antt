@@ -73,7 +73,7 @@ module _ (b : List ℕ) (n : ℕ) (z : Sizes) (l : length b ≡ n) (s : Css.size
       shown :
           (which : Component) (needed : ℕ) (p : Span) → Css.shown which b ≡ leb needed n → Css.spanOf which z ≡ p
           → Css.located which b ≡ handed n z needed p
-      unfolding Css.truncated Css.place
+      unfolding Css.truncated Css.part
       shown which needed p q e = simp (number, q, l, s, e, fewer n (4 * z .s) (leb (4 * z .s) n) refl)
 
       -- uCode and RSA are shown: whatever they need is there

@@ -10,7 +10,7 @@ use borrow.Author.Tests.{ltb-true, ltb-false, leb-true, eqb-true, not-false}
 use Rattle.firmware.specs.Bytes.{Span, span, bytes, placed}
 use Rattle.firmware.specs.Css
 use Rattle.firmware.specs.Cpd
-use Rattle.firmware.specs.Inside.{hucName, hucBlob, hucPlace}
+use Rattle.firmware.specs.Inside.{hucName, hucBlob, hucSpan}
 use Rattle.firmware.specs.Private.{tableOf}
 use Rattle.firmware.specs.declared.bytes.Located.{Located}
 use Rattle.firmware.specs.declared.cpd.Table.{Table}
@@ -88,8 +88,8 @@ shown-beyond b Exponent e =
     let a = css-accepted b (eqb-true (Css.number b) 0 (t .0)) in
     omega (arith, leb-true (4 * Css.sizes b .s) (length b) (t .1))
 
-pub css-lies : (b : List ℕ) (which : Component) → Lies (length b) (Css.place which b)
-unfolding Css.place
+pub css-lies : (b : List ℕ) (which : Component) → Lies (length b) (Css.part which b)
+unfolding Css.part
 css-lies b which = either (Lies (length b)) (Css.shown which b) _ _ (λ e. shown-beyond b which e .lies) (λ _. omega arith)
 
 -- the last component ends at 4s: 'Bytes past 4s belong to no part.'
@@ -134,8 +134,8 @@ name-accepted b name e =
     let w = unmet (eqb (Cpd.entriesNamed b name) 0) 20 _ refl (v .1) in
     unmet (ltb 1 (Cpd.entriesNamed b name)) 22 _ refl (w .1) .1
 
-pub cpd-lies : (b name : List ℕ) → Lies (length b) (Cpd.place b name)
-unfolding Cpd.place
+pub cpd-lies : (b name : List ℕ) → Lies (length b) (Cpd.part b name)
+unfolding Cpd.part
 cpd-lies b name =
     either (Lies (length b)) (eqb (Cpd.number b name) 0) _ _
     (λ e. part-accepted b (Cpd.firstEntry b name) (name-accepted b name (eqb-true (Cpd.number b name) 0 e)))
@@ -146,10 +146,10 @@ pub length-bytes : (b : List ℕ) (p : Span) → Lies (length b) p → length (b
 length-bytes b p h = simp (length-take, length-drop) (omega arith)
 
 -- a component of the image in `huc_fw` lies within the directory's blob
-pub huc-lies : (b : List ℕ) (which : Component) → Lies (length b) (hucPlace which b)
-unfolding hucPlace
+pub huc-lies : (b : List ℕ) (which : Component) → Lies (length b) (hucSpan which b)
+unfolding hucSpan
 huc-lies b which =
-    let p : Span = Cpd.place b hucName in
+    let p : Span = Cpd.part b hucName in
     let q : Span = Css.spanOf which (Css.sizes (hucBlob b)) in
     let outside : Lies (length b) p = cpd-lies b hucName in
     either (Lies (length b)) (eqb (Cpd.number b hucName) 0 && Css.shown which (hucBlob b)) _ _

@@ -94,13 +94,13 @@ module _ (b : List ℕ) {t : Table} (e : t ≡ tableOf b) where
 -- a part that is sought: where it is not handed out nothing is measured
 module _ (b name : List ℕ) {f : Located} (e : f ≡ Cpd.located b name) where
   sought : f .code ≡ 0 → eqb (Cpd.number b name) 0 ≡ true
-  sought z = eq-eqb (Cpd.number b name) 0 (located-code (Cpd.number b name) false (Cpd.place b name) e ∙ z)
+  sought z = eq-eqb (Cpd.number b name) 0 (located-code (Cpd.number b name) false (Cpd.part b name) e ∙ z)
 
   not-sought : (f .code ≡ 0 → ⊥) → eqb (Cpd.number b name) 0 ≡ false
   not-sought z = ne-eqb (Cpd.number b name) 0 (λ q. z (rw e q))
 
   part-length : length (partNamed b name) ≡ f .len
-  part-length = length-bytes b (Cpd.place b name) (cpd-lies b name) ∙ sym (ap (λ (x : Located). x .len) e)
+  part-length = length-bytes b (Cpd.part b name) (cpd-lies b name) ∙ sym (ap (λ (x : Located). x .len) e)
 
 module _ (b : List ℕ) {f : Located} (e : f ≡ Cpd.located b manifestName) where
   pub manifest-refused : (f .code ≡ 0 → ⊥) → unmeasured (f .code) 0 ≡ manifestFigures b
@@ -125,9 +125,9 @@ module _ (b : List ℕ) {f : Located} (e : f ≡ Cpd.located b hucName) where
 -- ---- the number beside the figures is the one that the calls answer
 
 -- the figures of a number n that asks for the bytes of a header at 15 and for none at k
-figures-code : (n k short needed whole there : ℕ) →
-    cond (eqb n 15) (figures 15 short short there) (cond (eqb n k) (unmeasured k there) (figures n needed whole there)) .code ≡ n
-figures-code n k short needed whole there =
+figures-code : (n k short needed complete there : ℕ) →
+    cond (eqb n 15) (figures 15 short short there) (cond (eqb n k) (unmeasured k there) (figures n needed complete there)) .code ≡ n
+figures-code n k short needed complete there =
     cases (eqb n 15)
     (λ f. simp f (sym (eqb-true n 15 f)))
     (λ f. cases (eqb n k) (λ g. simp (f, g) (sym (eqb-true n k g))) (λ g. simp (f, g)))
@@ -163,18 +163,18 @@ pub record Missing (f : Figures) : Type 0 where
 none-asked : (n there : ℕ) → Missing (unmeasured n there)
 none-asked n there = record { missing = λ z q. absurd (q refl) }
 
-too-few : (n needed whole there : ℕ) → Missing (measured n needed whole there)
+too-few : (n needed complete there : ℕ) → Missing (measured n needed complete there)
 unfolding measured
-too-few n needed whole there = record {
+too-few n needed complete there = record {
   missing = λ z q.
       cases (ltb there needed)
       (λ t. ltb-true there needed t)
       (λ t. absurd (z (simp t)));
 }
 
-by-measure : (n needed whole there : ℕ) → Missing (figures (cond (ltb there needed) n 0) needed whole there)
+by-measure : (n needed complete there : ℕ) → Missing (figures (cond (ltb there needed) n 0) needed complete there)
 unfolding measured
-by-measure n needed whole there = too-few n needed whole there
+by-measure n needed complete there = too-few n needed complete there
 
 pub image-missing : (b : List ℕ) → Missing (imageFigures b)
 image-missing b =

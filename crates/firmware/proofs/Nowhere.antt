@@ -7,7 +7,7 @@ use lib.Dec.{eqb}
 use Rattle.firmware.specs.Bytes.{nowhere, placed}
 use Rattle.firmware.specs.Css
 use Rattle.firmware.specs.Cpd
-use Rattle.firmware.specs.Inside.{hucName, hucBlob, hucNumber, hucTruncated, hucPlace, hucLocated}
+use Rattle.firmware.specs.Inside.{hucName, hucBlob, hucNumber, hucTruncated, hucSpan, hucLocated}
 use Rattle.firmware.specs.declared.css.Component.{Component}
 use Rattle.firmware.specs.declared.css.Component.the-variants.{Ucode, Rsa, Modulus, Exponent}
 
@@ -22,7 +22,7 @@ not-shown b Exponent e = rw e
 pub image-nowhere :
     (b : List ℕ) (which : Component) → Css.isImage b ≡ false
     → Css.located which b ≡ placed (Css.number b) false nowhere
-unfolding Css.place Css.truncated
+unfolding Css.part Css.truncated
 image-nowhere b which e = rw (not-shown b which e, e)
 
 -- an entry, and a name, that is refused
@@ -30,21 +30,21 @@ pub entry-nowhere : (b : List ℕ) (i : ℕ) → eqb (Cpd.entryNumber b i) 0 ≡
 unfolding Cpd.entryPlace
 entry-nowhere b i e = rw e
 
-pub name-nowhere : (b name : List ℕ) → eqb (Cpd.number b name) 0 ≡ false → Cpd.place b name ≡ nowhere
-unfolding Cpd.place
+pub name-nowhere : (b name : List ℕ) → eqb (Cpd.number b name) 0 ≡ false → Cpd.part b name ≡ nowhere
+unfolding Cpd.part
 name-nowhere b name e = rw e
 
 -- a component of the image in `huc_fw`, where the directory refuses, and where the image does
 pub huc-outside-nowhere :
     (b : List ℕ) (which : Component) → eqb (Cpd.number b hucName) 0 ≡ false
     → hucLocated which b ≡ placed (Cpd.number b hucName) false nowhere
-unfolding hucNumber hucTruncated hucPlace
+unfolding hucNumber hucTruncated hucSpan
 huc-outside-nowhere b which e = rw e
 
 pub huc-nowhere :
     (b : List ℕ) (which : Component) → eqb (hucNumber b) 0 ≡ false
     → hucLocated which b ≡ placed (hucNumber b) false nowhere
-unfolding hucNumber hucTruncated hucPlace Css.truncated
+unfolding hucNumber hucTruncated hucSpan Css.truncated
 huc-nowhere b which e = go (eqb (Cpd.number b hucName) 0) refl
   where
     go : (t : Bool) → eqb (Cpd.number b hucName) 0 ≡ t → hucLocated which b ≡ placed (hucNumber b) false nowhere

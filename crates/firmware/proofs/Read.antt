@@ -41,7 +41,7 @@ entry-refused b i shared e = simp e
 name-refused :
     (b name : List ℕ) → Cpd.isName name ≡ true → eqb (Cpd.directoryNumber b) 0 ≡ false
     → Cpd.located b name ≡ placed (Cpd.directoryNumber b) false nowhere
-unfolding Cpd.number Cpd.place
+unfolding Cpd.number Cpd.part
 name-refused b name n e = simp (n, e)
 
 pub entry-own :
@@ -94,7 +94,7 @@ module _ (b name key : List ℕ) {t : Table} (h : Keyed name key) (n : Cpd.isNam
     by-number :
         (d : Bool) → eqb (Cpd.directoryNumber b) 0 ≡ d → t .count ≤ i → (shared : Bool)
         → entryJudged b i shared ≡ Cpd.located b name
-    unfolding entryJudged Cpd.number Cpd.place Cpd.entriesNamed Cpd.firstEntry
+    unfolding entryJudged Cpd.number Cpd.part Cpd.entriesNamed Cpd.firstEntry
     by-number true d l shared =
         let f : i ≡ Cpd.firstEntry b name = first-is d in
         let g : Cpd.count b ≤ i = omega (arith, entries-are d) in
@@ -128,7 +128,7 @@ module _ (b name key : List ℕ) {t : Table} (h : Keyed name key) (n : Cpd.isNam
       there = lt-leb (Cpd.count b) i found
 
       named-once : t .count ≤ next → entryJudged b i false ≡ Cpd.located b name
-      unfolding entryJudged Cpd.number Cpd.place
+      unfolding entryJudged Cpd.number Cpd.part
       named-once g =
           let z : Cpd.countFrom (Cpd.hasName b name) (i + 1) (Cpd.count b - (i + 1)) ≡ 0
           = count-none (Cpd.hasName b name) (i + 1) (Cpd.count b - (i + 1))
@@ -137,7 +137,7 @@ module _ (b name key : List ℕ) {t : Table} (h : Keyed name key) (n : Cpd.isNam
           simp (n, accepted, one, there, ← first-is accepted)
 
       named-again : next < t .count → entryJudged b i true ≡ Cpd.located b name
-      unfolding entryJudged Cpd.number Cpd.place
+      unfolding entryJudged Cpd.number Cpd.part
       named-again g =
           let more =
           count-met (Cpd.hasName b name) (i + 1) (Cpd.count b - (i + 1)) next next-is
@@ -204,7 +204,7 @@ module _ (b name : List ℕ) {t : Table} (e : t ≡ tableOf b) (i : ℕ) where
         (one-alone (Cpd.hasName b name) i) in
         simp (n, entries-of, lt-ltb i (t .count) l) found
 
--- the place of entry i's name, where there is such an entry and where there is none
+-- the span of entry i's name, where there is such an entry and where there is none
 name-at :
     (t : Bool) (x y i : ℕ) → i < cond t y 0
     → cond (ltb i (cond t y 0)) (span (x + 24 * i) (x + 24 * i + 12)) nowhere ≡ span (cond t x 0 + 24 * i) (cond t x 0 + 24 * i + 12)
@@ -212,10 +212,10 @@ name-at true x y i l = simp (lt-ltb i y l)
 name-at false x y i l = absurd (omega arith)
 
 module _ (b : List ℕ) (i : ℕ) {t : Table} (e : t ≡ tableOf b) where
-  pub name-none : t .count ≤ i → Cpd.namePlace b i ≡ nowhere
-  unfolding Cpd.namePlace Cpd.entriesOf tableOf
+  pub name-none : t .count ≤ i → Cpd.nameSpan b i ≡ nowhere
+  unfolding Cpd.nameSpan Cpd.entriesOf tableOf
   name-none l = simp (le-ltb i _ (rw e at l))
 
-  pub name-there : i < t .count → Cpd.namePlace b i ≡ span (t .start + 24 * i) (t .start + 24 * i + 12)
-  unfolding Cpd.namePlace Cpd.entriesOf tableOf
+  pub name-there : i < t .count → Cpd.nameSpan b i ≡ span (t .start + 24 * i) (t .start + 24 * i + 12)
+  unfolding Cpd.nameSpan Cpd.entriesOf tableOf
   name-there l = rw e (name-at (eqb (Cpd.directoryNumber b) 0) (Cpd.headerLength b) (Cpd.count b) i (rw e at l))

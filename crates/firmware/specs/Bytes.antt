@@ -36,7 +36,7 @@ bytes b p = take (p .to - p .from) (drop (p .from) b)
 pub record PartOf (b : RefT (List ℕ)) (p : Span) (r : RefT (List ℕ)) : Type 0 where
   pub same-bytes : now r ≡ bytes (now b) p
   pub same-block : ptr r .0 ≡ ptr b .0
-  pub same-place : ptr r .1 ≡ p .from + ptr b .1
+  pub same-start : ptr r .1 ≡ p .from + ptr b .1
 
 -- a part by its first byte and length, beside the number that its judgement gives and whether that says truncated
 abbrev pub placed : ℕ → Bool → Span → Located

@@ -94,12 +94,12 @@ number b name =
     (cond (eqb (entriesNamed b name) 0) 20 (cond (ltb 1 (entriesNamed b name)) 22 (partNumber b (firstEntry b name)))))
 
 -- the part that is handed back for that name, or the empty part that a refusal gives
-unfoldable pub place : List ℕ → List ℕ → Span
-place b name = cond (eqb (number b name) 0) (entryPart b (entryStart b (firstEntry b name))) nowhere
+unfoldable pub part : List ℕ → List ℕ → Span
+part b name = cond (eqb (number b name) 0) (entryPart b (entryStart b (firstEntry b name))) nowhere
 
 -- the whole judgement of a name sought
 abbrev pub located : List ℕ → List ℕ → Located
-located b name = placed (number b name) false (place b name)
+located b name = placed (number b name) false (part b name)
 
 -- ours, for a list of all entries: entry i by its index: 15, 18 and 19, then 20 where there is no such entry, then 21.
 -- No name is sought, so there is no 22
@@ -117,8 +117,8 @@ unfoldable pub entriesOf : List ℕ → Directory
 entriesOf b = record { code = directoryNumber b; count = cond (eqb (directoryNumber b) 0) (count b) 0 }
 
 -- ours: where the twelve bytes of the name of entry i lie
-unfoldable pub namePlace : List ℕ → ℕ → Span
-namePlace b i = cond (ltb i (entriesOf b .count)) (span (entryStart b i) (entryStart b i + 12)) nowhere
+unfoldable pub nameSpan : List ℕ → ℕ → Span
+nameSpan b i = cond (ltb i (entriesOf b .count)) (span (entryStart b i) (entryStart b i + 12)) nowhere
 
 -- ours: whether the name may be sought, there is an entry i, and it has that name
 unfoldable pub entryHas : List ℕ → List ℕ → ℕ → Bool

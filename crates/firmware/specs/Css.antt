@@ -63,12 +63,12 @@ shown Modulus b = isImage b && allThere b
 shown Exponent b = isImage b && allThere b
 
 -- where a component lies; one that is not shown is 'the empty part that a refusal gives'
-unfoldable pub place : Component → List ℕ → Span
-place which b = cond (shown which b) (spanOf which (sizes b)) nowhere
+unfoldable pub part : Component → List ℕ → Span
+part which b = cond (shown which b) (spanOf which (sizes b)) nowhere
 
 -- the whole judgement of an image of which that component is asked
 abbrev pub located : Component → List ℕ → Located
-located which b = placed (number b) (truncated b) (place which b)
+located which b = placed (number b) (truncated b) (part which b)
 
 -- the answer alone
 abbrev pub answer : List ℕ → ImageAnswer

@@ -15,7 +15,7 @@ use Rattle.firmware.specs.declared.figures.Figures.{Figures}
 -- a number with its figures: the bytes that it asks for, those that nothing is left out of (as far as they are known:
 -- beside 15 the header's), and those that are there
 abbrev pub figures : ℕ → ℕ → ℕ → ℕ → Figures
-figures n needed whole there = record { code = n; needed = needed; whole = whole; there = there }
+figures n needed complete there = record { code = n; needed = needed; complete = complete; there = there }
 
 -- the bytes of a header by whose lack a blob is 15
 abbrev pub short : ℕ → ℕ → Figures
@@ -27,7 +27,7 @@ unmeasured n there = figures n 0 0 there
 
 -- a number that is given exactly when fewer bytes are there than needed, else 0
 unfoldable pub measured : ℕ → ℕ → ℕ → ℕ → Figures
-measured n needed whole there = figures (cond (ltb there needed) n 0) needed whole there
+measured n needed complete there = figures (cond (ltb there needed) n 0) needed complete there
 
 -- 'Bytes 128 + 4(s - h) + 4k must be there', 4s of a whole image
 abbrev pub imageNeeds : Sizes → ℕ

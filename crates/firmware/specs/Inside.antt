@@ -22,7 +22,7 @@ hucName = 0x68 ∷ 0x75 ∷ 0x63 ∷ 0x5F ∷ 0x66 ∷ 0x77 ∷ []
 
 -- the bytes of the part of that name
 abbrev pub partNamed : List ℕ → List ℕ → List ℕ
-partNamed b name = bytes b (Cpd.place b name)
+partNamed b name = bytes b (Cpd.part b name)
 
 -- '`HUCP.man` is a manifest: .. 44 bytes are needed, else 15'
 unfoldable pub manifestNumber : List ℕ → ℕ
@@ -41,18 +41,18 @@ hucTruncated b = eqb (Cpd.number b hucName) 0 && Css.truncated (hucBlob b)
 abbrev pub hucAnswer : List ℕ → ImageAnswer
 hucAnswer b = record { code = hucNumber b; truncated = hucTruncated b }
 
--- a place in a part that starts at byte start, as a place in the directory's blob
+-- a span in a part that starts at byte start, as one in the directory's blob
 abbrev pub within : ℕ → Span → Span
 within start p = span (start + p .from) (start + p .to)
 
 -- where a component of that image lies in the directory's blob; 'the empty part at the start of the lent blob (the
 -- outer one, inside a directory)'
-unfoldable pub hucPlace : Component → List ℕ → Span
-hucPlace which b =
+unfoldable pub hucSpan : Component → List ℕ → Span
+hucSpan which b =
     cond (eqb (Cpd.number b hucName) 0 && Css.shown which (hucBlob b))
-    (within (Cpd.place b hucName .from) (Css.spanOf which (Css.sizes (hucBlob b))))
+    (within (Cpd.part b hucName .from) (Css.spanOf which (Css.sizes (hucBlob b))))
     nowhere
 
 -- the whole judgement of the image of which that component is asked
 abbrev pub hucLocated : Component → List ℕ → Located
-hucLocated which b = placed (hucNumber b) (hucTruncated b) (hucPlace which b)
+hucLocated which b = placed (hucNumber b) (hucTruncated b) (hucSpan which b)

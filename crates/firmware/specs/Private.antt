@@ -29,7 +29,7 @@ pub record Small (z : Sizes) : Type 0 where
 abbrev pub LocatedBy : ℕ → Sizes → Component → Located → Type 0
 LocatedBy n z which r = (b : List ℕ) → length b ≡ n → Css.sizes b ≡ z → r ≡ Css.located which b
 
--- a component's place in the order
+-- which of the four a component is, in their order
 abbrev pub rank : Component → ℕ
 rank Ucode = 0
 rank Rsa = 1

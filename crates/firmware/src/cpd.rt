@@ -212,7 +212,7 @@ pub fn cpd_answer(blob: &[u8], name: &[u8]) -> u32
 
 // The part of that name; the empty part at the start on a refusal.
 pub fn cpd_part<'a, 'b>(blob: &'a [u8], name: &'b [u8]) -> &'a [u8]
-    ensures { λ r. ⌜ PartOf (blob .entry) (Cpd.place (now (blob .entry)) (now (name .entry))) r ⌝ }
+    ensures { λ r. ⌜ PartOf (blob .entry) (Cpd.part (now (blob .entry)) (now (name .entry))) r ⌝ }
 {
     let l = cpd_located(blob, name);
     part(blob, l)
@@ -231,7 +231,7 @@ pub fn cpd_directory(blob: &[u8]) -> Directory
 
 // The twelve name bytes of entry i; the empty part at the start where there is no such entry.
 pub fn cpd_name(blob: &[u8], i: usize) -> &[u8]
-    ensures { λ r. ⌜ PartOf (blob .entry) (Cpd.namePlace (now (blob .entry)) i) r ⌝ }
+    ensures { λ r. ⌜ PartOf (blob .entry) (Cpd.nameSpan (now (blob .entry)) i) r ⌝ }
 {
     let t = read_table(blob);
     if t.count <= i {

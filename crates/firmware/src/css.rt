@@ -112,7 +112,7 @@ fn component_located(n: usize, needed: usize, truncated: bool, from: usize, to: 
     }
 }
 
-// A component's place in the order. Asked by halves in `judge`, for a match of four is compiled to a jump table.
+// Which of the four a component is, in their order. Asked by halves in `judge`, for a match of four is compiled to a jump table.
 fn rank(which: Component) -> u32
     ensures { λ r. ⌜ (r ≡ rank which) × (r < 4) ⌝ }
 {
@@ -177,7 +177,7 @@ pub fn css_answer(blob: &[u8]) -> ImageAnswer
 
 // A component of an image; the empty part at the start where it is not shown.
 pub fn css_part(blob: &[u8], which: Component) -> &[u8]
-    ensures { λ r. ⌜ PartOf (blob .entry) (Css.place which (now (blob .entry))) r ⌝ }
+    ensures { λ r. ⌜ PartOf (blob .entry) (Css.part which (now (blob .entry))) r ⌝ }
 {
     let l = css_located(blob, which);
     part(blob, l)
@@ -185,25 +185,25 @@ pub fn css_part(blob: &[u8], which: Component) -> &[u8]
 
 // Each component by its name: the empty part at the blob's start where it is not shown.
 pub fn ucode(blob: &[u8]) -> &[u8]
-    ensures { λ r. ⌜ PartOf (blob .entry) (Css.place Ucode (now (blob .entry))) r ⌝ }
+    ensures { λ r. ⌜ PartOf (blob .entry) (Css.part Ucode (now (blob .entry))) r ⌝ }
 {
     css_part(blob, Component::Ucode)
 }
 
 pub fn rsa(blob: &[u8]) -> &[u8]
-    ensures { λ r. ⌜ PartOf (blob .entry) (Css.place Rsa (now (blob .entry))) r ⌝ }
+    ensures { λ r. ⌜ PartOf (blob .entry) (Css.part Rsa (now (blob .entry))) r ⌝ }
 {
     css_part(blob, Component::Rsa)
 }
 
 pub fn modulus(blob: &[u8]) -> &[u8]
-    ensures { λ r. ⌜ PartOf (blob .entry) (Css.place Modulus (now (blob .entry))) r ⌝ }
+    ensures { λ r. ⌜ PartOf (blob .entry) (Css.part Modulus (now (blob .entry))) r ⌝ }
 {
     css_part(blob, Component::Modulus)
 }
 
 pub fn exponent(blob: &[u8]) -> &[u8]
-    ensures { λ r. ⌜ PartOf (blob .entry) (Css.place Exponent (now (blob .entry))) r ⌝ }
+    ensures { λ r. ⌜ PartOf (blob .entry) (Css.part Exponent (now (blob .entry))) r ⌝ }
 {
     css_part(blob, Component::Exponent)
 }

@@ -3,17 +3,10 @@
 ghost use mathlib.Core.Path.{_≡_};
 ghost use Prim.Native.Nat.{_<_, _≤_};
 ghost use Rattle.firmware.specs.Cpd;
-ghost use Rattle.firmware.specs.Figures.{unmeasured, measured, imageFigures, directoryFigures, entryFigures};
-ghost use Rattle.firmware.specs.Figures.{manifestFigures, hucFigures, headerSizes};
-use crate::cpd::ENTRY_BYTES;
-use crate::cpd::cpd_located;
-use crate::cpd::extent_at;
-use crate::cpd::has_marker;
-use crate::cpd::read_table;
-use crate::css::HEADER_BYTES;
-use crate::css::Sizes;
-use crate::css::agree;
-use crate::css::read_sizes;
+ghost use Rattle.firmware.specs.Figures.{figures, unmeasured, measured, imageFigures};
+ghost use Rattle.firmware.specs.Figures.{directoryFigures, entryFigures, manifestFigures, hucFigures, headerSizes};
+use crate::cpd;
+use crate::css;
 use crate::refusal;
 use crate::version::MANIFEST_MIN;
 
@@ -22,7 +15,7 @@ use crate::version::MANIFEST_MIN;
 pub struct Figures {
     pub code: u32,
     pub needed: usize,
-    pub whole: usize,
+    pub complete: usize,
     pub there: usize,
 }
 
@@ -33,27 +26,27 @@ fn unmeasured(code: u32, there: usize) -> Figures
     Figures {
         code,
         needed: 0,
-        whole: 0,
+        complete: 0,
         there,
     }
 }
 
 // A number that is given exactly when fewer bytes are there than needed.
-fn measured(code: u32, needed: usize, whole: usize, there: usize) -> Figures
-    ensures { λ r. ⌜ r ≡ measured code needed whole there ⌝ }
+fn measured(code: u32, needed: usize, complete: usize, there: usize) -> Figures
+    ensures { λ r. ⌜ r ≡ measured code needed complete there ⌝ }
 {
     if there < needed {
         return Figures {
             code,
             needed,
-            whole,
+            complete,
             there,
         };
     }
     Figures {
         code: 0,
         needed,
-        whole,
+        complete,
         there,
     }
 }
@@ -62,23 +55,28 @@ fn measured(code: u32, needed: usize, whole: usize, there: usize) -> Figures
 pub fn css_figures(blob: &[u8]) -> Figures
     ensures { λ r. ⌜ r ≡ imageFigures (now (blob .entry)) ⌝ }
 {
-    if blob.len() < HEADER_BYTES {
-        return measured(refusal::SHORT_BLOB, HEADER_BYTES, HEADER_BYTES, blob.len());
+    if blob.len() < css::HEADER_BYTES {
+        return measured(
+            refusal::SHORT_BLOB,
+            css::HEADER_BYTES,
+            css::HEADER_BYTES,
+            blob.len(),
+        );
     }
-    let z = read_sizes(blob);
-    if !agree(z) {
+    let z = css::read_sizes(blob);
+    if !css::agree(z) {
         return unmeasured(refusal::CSS_SIZES, blob.len());
     }
-    let needed = HEADER_BYTES + 4 * (z.s - z.h) + 4 * z.k;
+    let needed = css::HEADER_BYTES + 4 * (z.s - z.h) + 4 * z.k;
     measured(refusal::CSS_BEYOND, needed, 4 * z.s, blob.len())
 }
 
 // The sizes in an image's header, also where they disagree; all 0 where there is no header.
-pub fn css_sizes(blob: &[u8]) -> Sizes
+pub fn css_sizes(blob: &[u8]) -> css::Sizes
     ensures { λ r. ⌜ r ≡ headerSizes (now (blob .entry)) ⌝ }
 {
-    if blob.len() < HEADER_BYTES {
-        return Sizes {
+    if blob.len() < css::HEADER_BYTES {
+        return css::Sizes {
             h: 0,
             s: 0,
             k: 0,
@@ -86,7 +84,7 @@ pub fn css_sizes(blob: &[u8]) -> Sizes
             e: 0,
         };
     }
-    read_sizes(blob)
+    css::read_sizes(blob)
 }
 
 // Whether the blob starts with the marker $CPD, which makes it a directory, good or not.
@@ -96,39 +94,40 @@ pub fn cpd_marker(blob: &[u8]) -> bool
     if blob.len() < 4 {
         return false;
     }
-    has_marker(blob)
+    cpd::has_marker(blob)
+}
+
+// A directory's number, and the bytes up to its entries' end.
+fn of_table(t: cpd::Table, there: usize) -> Figures
+    ensures { λ r. ⌜ r ≡ figures (t .code) (t .needed) (t .needed) there ⌝ }
+{
+    Figures {
+        code: t.code,
+        needed: t.needed,
+        complete: t.needed,
+        there,
+    }
 }
 
 // The figures of a directory.
 pub fn cpd_figures(blob: &[u8]) -> Figures
     ensures { λ r. ⌜ r ≡ directoryFigures (now (blob .entry)) ⌝ }
 {
-    let t = read_table(blob);
-    Figures {
-        code: t.code,
-        needed: t.needed,
-        whole: t.needed,
-        there: blob.len(),
-    }
+    of_table(cpd::read_table(blob), blob.len())
 }
 
 // The figures of entry i, by its index.
 pub fn cpd_entry_figures(blob: &[u8], i: usize) -> Figures
     ensures { λ r. ⌜ r ≡ entryFigures (now (blob .entry)) i ⌝ }
 {
-    let t = read_table(blob);
+    let t = cpd::read_table(blob);
     if t.code != 0 {
-        return Figures {
-            code: t.code,
-            needed: t.needed,
-            whole: t.needed,
-            there: blob.len(),
-        };
+        return of_table(t, blob.len());
     }
     if t.count <= i {
         return unmeasured(refusal::NO_ENTRY, blob.len());
     }
-    let x = extent_at(blob, t.start + ENTRY_BYTES * i);
+    let x = cpd::extent_at(blob, t.start + cpd::ENTRY_BYTES * i);
     let end = x.start + x.len;
     measured(refusal::CPD_BEYOND, end, end, blob.len())
 }
@@ -137,7 +136,7 @@ pub fn cpd_entry_figures(blob: &[u8], i: usize) -> Figures
 pub fn manifest_figures(blob: &[u8]) -> Figures
     ensures { λ r. ⌜ r ≡ manifestFigures (now (blob .entry)) ⌝ }
 {
-    let f = cpd_located(blob, b"HUCP.man");
+    let f = cpd::cpd_located(blob, b"HUCP.man");
     if f.code != 0 {
         return unmeasured(f.code, 0);
     }
@@ -148,7 +147,7 @@ pub fn manifest_figures(blob: &[u8]) -> Figures
 pub fn huc_figures(blob: &[u8]) -> Figures
     ensures { λ r. ⌜ r ≡ hucFigures (now (blob .entry)) ⌝ }
 {
-    let f = cpd_located(blob, b"huc_fw");
+    let f = cpd::cpd_located(blob, b"huc_fw");
     if f.code != 0 {
         return unmeasured(f.code, 0);
     }

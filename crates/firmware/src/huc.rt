@@ -3,7 +3,7 @@ ghost use mathlib.Core.Path.{_≡_};
 ghost use Prim.Native.Nat.{_+_, _<_, _^_};
 ghost use Rattle.firmware.specs.Bytes.{PartOf};
 ghost use Rattle.firmware.specs.declared.css.Component.the-variants.{Ucode, Rsa, Modulus, Exponent};
-ghost use Rattle.firmware.specs.Inside.{hucAnswer, hucLocated, hucPlace};
+ghost use Rattle.firmware.specs.Inside.{hucAnswer, hucLocated, hucSpan};
 ghost use Rattle.firmware.specs.Private.{outer};
 use crate::bytes::Located;
 use crate::bytes::part;
@@ -56,7 +56,7 @@ pub fn huc_answer(blob: &[u8]) -> ImageAnswer
 
 // A component of that image; the empty part at the outer blob's start where it is not shown.
 pub fn huc_part(blob: &[u8], which: Component) -> &[u8]
-    ensures { λ r. ⌜ PartOf (blob .entry) (hucPlace which (now (blob .entry))) r ⌝ }
+    ensures { λ r. ⌜ PartOf (blob .entry) (hucSpan which (now (blob .entry))) r ⌝ }
 {
     let l = huc_located(blob, which);
     part(blob, l)
@@ -64,25 +64,25 @@ pub fn huc_part(blob: &[u8], which: Component) -> &[u8]
 
 // Each component by its name.
 pub fn huc_ucode(blob: &[u8]) -> &[u8]
-    ensures { λ r. ⌜ PartOf (blob .entry) (hucPlace Ucode (now (blob .entry))) r ⌝ }
+    ensures { λ r. ⌜ PartOf (blob .entry) (hucSpan Ucode (now (blob .entry))) r ⌝ }
 {
     huc_part(blob, Component::Ucode)
 }
 
 pub fn huc_rsa(blob: &[u8]) -> &[u8]
-    ensures { λ r. ⌜ PartOf (blob .entry) (hucPlace Rsa (now (blob .entry))) r ⌝ }
+    ensures { λ r. ⌜ PartOf (blob .entry) (hucSpan Rsa (now (blob .entry))) r ⌝ }
 {
     huc_part(blob, Component::Rsa)
 }
 
 pub fn huc_modulus(blob: &[u8]) -> &[u8]
-    ensures { λ r. ⌜ PartOf (blob .entry) (hucPlace Modulus (now (blob .entry))) r ⌝ }
+    ensures { λ r. ⌜ PartOf (blob .entry) (hucSpan Modulus (now (blob .entry))) r ⌝ }
 {
     huc_part(blob, Component::Modulus)
 }
 
 pub fn huc_exponent(blob: &[u8]) -> &[u8]
-    ensures { λ r. ⌜ PartOf (blob .entry) (hucPlace Exponent (now (blob .entry))) r ⌝ }
+    ensures { λ r. ⌜ PartOf (blob .entry) (hucSpan Exponent (now (blob .entry))) r ⌝ }
 {
     huc_part(blob, Component::Exponent)
 }

@@ -9,7 +9,7 @@ use lib.ListN.{length, getD, drop}
 use Rattle.firmware.specs.Bytes.{bytes}
 use Rattle.firmware.specs.Css
 use Rattle.firmware.specs.Cpd
-use Rattle.firmware.specs.Inside.{hucLocated, hucNumber, hucPlace, hucTruncated}
+use Rattle.firmware.specs.Inside.{hucLocated, hucNumber, hucSpan, hucTruncated}
 use Rattle.firmware.specs.Version.{Reading}
 use Rattle.firmware.specs.declared.bytes.Located.{Located}
 use Rattle.firmware.specs.declared.css.Component.{Component}
@@ -82,16 +82,16 @@ copiedBy n t part dst =
 unfoldable pub cssCopy : ℕ → List ℕ → List ℕ → CopiedOut
 cssCopy n b dst =
     Option·elim (componentOf n) (notCopied noSuch 0 0 dst)
-    (λ c. copiedBy (Css.number b) (flag (Css.truncated b)) (bytes b (Css.place c b)) dst)
+    (λ c. copiedBy (Css.number b) (flag (Css.truncated b)) (bytes b (Css.part c b)) dst)
 
 unfoldable pub hucCopy : ℕ → List ℕ → List ℕ → CopiedOut
 hucCopy n b dst =
     Option·elim (componentOf n) (notCopied noSuch 0 0 dst)
-    (λ c. copiedBy (hucNumber b) (flag (hucTruncated b)) (bytes b (hucPlace c b)) dst)
+    (λ c. copiedBy (hucNumber b) (flag (hucTruncated b)) (bytes b (hucSpan c b)) dst)
 
 -- an entry's part is of no image
 unfoldable pub cpdCopy : List ℕ → List ℕ → List ℕ → CopiedOut
-cpdCopy b name dst = copiedBy (Cpd.number b name) 0 (bytes b (Cpd.place b name)) dst
+cpdCopy b name dst = copiedBy (Cpd.number b name) 0 (bytes b (Cpd.part b name)) dst
 
 -- a version reading: its number and numbers, zeros where it is refused
 unfoldable pub versionBy : Reading → Version

@@ -7,13 +7,6 @@ use firmware::refusal::BAD_FIELD;
 use message::Body;
 use message::Message;
 use message::Origin;
-use message::TYPE_BUSY;
-use message::TYPE_EVENT;
-use message::TYPE_FAILURE;
-use message::TYPE_FAST_REQUEST;
-use message::TYPE_REQUEST;
-use message::TYPE_RETRY;
-use message::TYPE_SUCCESS;
 use ring::refusal::BAD_MESSAGE;
 
 // 0 and the two dwords, or the number that refuses it.
@@ -46,25 +39,25 @@ fn of_type(t: u32, first: u32, second: u32) -> Typed
     ensures { λ r. ⌜ ofTyped r ≡ bodyFor t first second ⌝ }
 {
     match t {
-        TYPE_REQUEST => Typed::Known(Body::Request {
+        message::TYPE_REQUEST => Typed::Known(Body::Request {
             data: first,
             action: second,
         }),
-        TYPE_EVENT => Typed::Known(Body::Event {
+        message::TYPE_EVENT => Typed::Known(Body::Event {
             data: first,
             action: second,
         }),
-        TYPE_FAST_REQUEST => Typed::Known(Body::FastRequest {
+        message::TYPE_FAST_REQUEST => Typed::Known(Body::FastRequest {
             data: first,
             action: second,
         }),
-        TYPE_BUSY => Typed::Known(Body::Busy { counter: first }),
-        TYPE_RETRY => Typed::Known(Body::Retry { reason: first }),
-        TYPE_FAILURE => Typed::Known(Body::Failure {
+        message::TYPE_BUSY => Typed::Known(Body::Busy { counter: first }),
+        message::TYPE_RETRY => Typed::Known(Body::Retry { reason: first }),
+        message::TYPE_FAILURE => Typed::Known(Body::Failure {
             hint: first,
             error: second,
         }),
-        TYPE_SUCCESS => Typed::Known(Body::Success { data: first }),
+        message::TYPE_SUCCESS => Typed::Known(Body::Success { data: first }),
         _ => Typed::Unknown,
     }
 }
@@ -194,15 +187,22 @@ fn decoded(m: Message) -> Unpacked
     let n = m.num_dwords;
     let body = m.body;
     match body {
-        Body::Request { data, action } => said(origin, fence, n, TYPE_REQUEST, data, action),
-        Body::Event { data, action } => said(origin, fence, n, TYPE_EVENT, data, action),
+        Body::Request { data, action } => said(
+            origin,
+            fence,
+            n,
+            message::TYPE_REQUEST,
+            data,
+            action,
+        ),
+        Body::Event { data, action } => said(origin, fence, n, message::TYPE_EVENT, data, action),
         Body::FastRequest { data, action } => {
-            said(origin, fence, n, TYPE_FAST_REQUEST, data, action)
+            said(origin, fence, n, message::TYPE_FAST_REQUEST, data, action)
         }
-        Body::Busy { counter } => said(origin, fence, n, TYPE_BUSY, counter, 0),
-        Body::Retry { reason } => said(origin, fence, n, TYPE_RETRY, reason, 0),
-        Body::Failure { hint, error } => said(origin, fence, n, TYPE_FAILURE, hint, error),
-        Body::Success { data } => said(origin, fence, n, TYPE_SUCCESS, data, 0),
+        Body::Busy { counter } => said(origin, fence, n, message::TYPE_BUSY, counter, 0),
+        Body::Retry { reason } => said(origin, fence, n, message::TYPE_RETRY, reason, 0),
+        Body::Failure { hint, error } => said(origin, fence, n, message::TYPE_FAILURE, hint, error),
+        Body::Success { data } => said(origin, fence, n, message::TYPE_SUCCESS, data, 0),
     }
 }
 

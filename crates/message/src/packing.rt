@@ -10,13 +10,7 @@ use crate::Body;
 use crate::Message;
 use crate::Origin;
 use crate::Packed;
-use crate::header::TYPE_BUSY;
-use crate::header::TYPE_EVENT;
-use crate::header::TYPE_FAILURE;
-use crate::header::TYPE_FAST_REQUEST;
-use crate::header::TYPE_REQUEST;
-use crate::header::TYPE_RETRY;
-use crate::header::TYPE_SUCCESS;
+use crate::header;
 
 // The fields of a body at their places, or that one is too wide.
 enum Placed {
@@ -59,13 +53,13 @@ fn body_bits(b: Body) -> Placed
     ensures { λ r. ⌜ r ≡ cond (fit (bodyFields b)) (Placed.Bits (dword (bodyFields b))) Placed.TooWide ⌝ }
 {
     match b {
-        Body::Request { data, action } => two_fields(TYPE_REQUEST, data, action),
-        Body::Event { data, action } => two_fields(TYPE_EVENT, data, action),
-        Body::FastRequest { data, action } => two_fields(TYPE_FAST_REQUEST, data, action),
-        Body::Busy { counter } => one_field(TYPE_BUSY, counter),
-        Body::Retry { reason } => one_field(TYPE_RETRY, reason),
-        Body::Failure { hint, error } => two_fields(TYPE_FAILURE, hint, error),
-        Body::Success { data } => one_field(TYPE_SUCCESS, data),
+        Body::Request { data, action } => two_fields(header::TYPE_REQUEST, data, action),
+        Body::Event { data, action } => two_fields(header::TYPE_EVENT, data, action),
+        Body::FastRequest { data, action } => two_fields(header::TYPE_FAST_REQUEST, data, action),
+        Body::Busy { counter } => one_field(header::TYPE_BUSY, counter),
+        Body::Retry { reason } => one_field(header::TYPE_RETRY, reason),
+        Body::Failure { hint, error } => two_fields(header::TYPE_FAILURE, hint, error),
+        Body::Success { data } => one_field(header::TYPE_SUCCESS, data),
     }
 }
 

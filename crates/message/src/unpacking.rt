@@ -9,12 +9,7 @@ use crate::Body;
 use crate::Message;
 use crate::Origin;
 use crate::Unpacked;
-use crate::header::TYPE_BUSY;
-use crate::header::TYPE_EVENT;
-use crate::header::TYPE_FAILURE;
-use crate::header::TYPE_FAST_REQUEST;
-use crate::header::TYPE_REQUEST;
-use crate::header::TYPE_RETRY;
+use crate::header;
 use crate::header::dword_at;
 use crate::header::hxg_type;
 use crate::header::num_dwords;
@@ -41,21 +36,21 @@ fn body(word: u32) -> Body
     let lower = word % 0x1_0000;
     let all = word % 0x1000_0000;
     match t {
-        TYPE_REQUEST => Body::Request {
+        header::TYPE_REQUEST => Body::Request {
             data: upper,
             action: lower,
         },
-        TYPE_EVENT => Body::Event {
+        header::TYPE_EVENT => Body::Event {
             data: upper,
             action: lower,
         },
-        TYPE_FAST_REQUEST => Body::FastRequest {
+        header::TYPE_FAST_REQUEST => Body::FastRequest {
             data: upper,
             action: lower,
         },
-        TYPE_BUSY => Body::Busy { counter: all },
-        TYPE_RETRY => Body::Retry { reason: all },
-        TYPE_FAILURE => Body::Failure {
+        header::TYPE_BUSY => Body::Busy { counter: all },
+        header::TYPE_RETRY => Body::Retry { reason: all },
+        header::TYPE_FAILURE => Body::Failure {
             hint: upper,
             error: lower,
         },

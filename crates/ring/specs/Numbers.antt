@@ -9,22 +9,22 @@ use lib.Dec.{eqb, leb, ltb}
 use Rattle.message.specs.Header.{totalLength, startsMessage}
 use Rattle.ring.specs.Ring.{allowed, used, free, STATUS, head, tail, status, good, overflow, underflow, mismatch}
 
--- the refusal's number where the test fails, else what the rest of the chain says
+-- the refusal's number where the test fails, else what the later tests say
 unfoldable pub need : Bool → ℕ → ℕ → ℕ
-need true number rest = rest
-need false number rest = number
+need true number later = later
+need false number later = number
 
 -- what every step and whole call needs first: 1 'descriptor is not 16 dwords', 2 'N not allowed', 3 'state doesn't
 -- fit', with the lengths of the descriptor and the buffer
 unfoldable pub firstNeeds : ℕ → ℕ → Bool → ℕ → ℕ
-firstNeeds descriptor n fits rest = need (eqb descriptor 16) 1 (need (allowed n) 2 (need fits 3 rest))
+firstNeeds descriptor n fits later = need (eqb descriptor 16) 1 (need (allowed n) 2 (need fits 3 later))
 
 -- what every look needs of the descriptor: 6 'look finds STATUS not 0', 7 'look finds HEAD or TAIL at least N', 8
 -- 'sender's own tail is not TAIL, or receiver's own head is not HEAD', with the descriptor's word that is to be the own
 -- offset
 unfoldable pub lookNeeds : ℕ → ℕ → ℕ → ℕ → ℕ → ℕ → ℕ → ℕ
-lookNeeds n own word status hd tl rest =
-    need (eqb status good) 6 (need (ltb hd n && ltb tl n) 7 (need (eqb own word) 8 rest))
+lookNeeds n own word status hd tl later =
+    need (eqb status good) 6 (need (ltb hd n && ltb tl n) 7 (need (eqb own word) 8 later))
 
 -- what a send's look needs of it: these, then 10 'L exceeds free'
 unfoldable pub sendLookNeeds : ℕ → ℕ → ℕ → ℕ → ℕ → ℕ → ℕ

@@ -3,11 +3,11 @@
 // 'The descriptor is 16 dwords: 0 HEAD, 1 TAIL, 2 STATUS, 3 to 15 reserved.'
 pub const DESCRIPTOR_DWORDS: usize = 16;
 
-pub(crate) const HEAD: usize = 0;
+pub const HEAD: usize = 0;
 
-pub(crate) const TAIL: usize = 1;
+pub const TAIL: usize = 1;
 
-pub(crate) const STATUS: usize = 2;
+pub const STATUS: usize = 2;
 
 // 'STATUS: 0 good': compared as it is read, widened; the others are stored.
 pub(crate) const STATUS_GOOD: usize = 0;

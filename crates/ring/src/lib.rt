@@ -8,6 +8,9 @@ pub mod refusal;
 mod sending;
 
 pub use descriptor::DESCRIPTOR_DWORDS;
+pub use descriptor::HEAD;
+pub use descriptor::STATUS;
+pub use descriptor::TAIL;
 pub use memory::mark;
 pub use memory::publish_head;
 pub use memory::publish_tail;

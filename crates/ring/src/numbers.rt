@@ -12,11 +12,11 @@ use runs::N_MAX;
 // 'N a multiple of 1,024 from 1,024'
 const N_UNIT: usize = 1024;
 
-// The refusal's number where the test fails, else the rest's.
-pub fn need(test: bool, number: u32, rest: u32) -> u32
-    ensures { λ r. ⌜ r ≡ need test number rest ⌝ }
+// The refusal's number where the test fails, else the later tests'.
+pub fn need(test: bool, number: u32, later: u32) -> u32
+    ensures { λ r. ⌜ r ≡ need test number later ⌝ }
 {
-    if test { rest } else { number }
+    if test { later } else { number }
 }
 
 // Whether a buffer may have n dwords.
@@ -28,8 +28,8 @@ pub fn allowed(n: usize) -> bool
 
 // 1, 2 and 3, which every step judges first, with the lengths of the descriptor and the buffer. Each is a branch, so
 // that what follows it knows that it passed: the compiler then leaves out what it would only test again.
-pub fn first_needs(descriptor: usize, n: usize, fits: bool, rest: u32) -> u32
-    ensures { λ r. ⌜ r ≡ firstNeeds descriptor n fits rest ⌝ }
+pub fn first_needs(descriptor: usize, n: usize, fits: bool, later: u32) -> u32
+    ensures { λ r. ⌜ r ≡ firstNeeds descriptor n fits later ⌝ }
 {
     if descriptor != DESCRIPTOR_DWORDS {
         return refusal::BAD_DESCRIPTOR;
@@ -40,7 +40,7 @@ pub fn first_needs(descriptor: usize, n: usize, fits: bool, rest: u32) -> u32
     if !fits {
         return refusal::BAD_STATE;
     }
-    rest
+    later
 }
 
 // The dwords in use.

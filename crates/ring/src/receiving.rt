@@ -14,12 +14,8 @@ ghost use Rattle.ring.specs.Private.{TakenBy};
 use crate::descriptor::HEAD;
 use crate::descriptor::STATUS;
 use crate::descriptor::TAIL;
-use crate::memory::mark;
-use crate::memory::publish_head;
-use crate::memory::wide;
-use crate::numbers::first_needs;
-use crate::numbers::need;
-use crate::numbers::pending;
+use crate::memory;
+use crate::numbers;
 use crate::refusal;
 use crate::sending::WholeEnd;
 use message::MESSAGE_MAX;
@@ -44,10 +40,10 @@ fn pending_header(own: usize, desc: &[u32], buf: &[u32]) -> JudgedHeader
         (headerNumber own (now (desc .entry)) (length (now (buf .entry))) (getD (now (buf .entry)) own 0))
         own (now (buf .entry)) ⌝ }
 {
-    let status = wide(dword_at(desc, STATUS));
-    let head = wide(dword_at(desc, HEAD));
-    let tail = wide(dword_at(desc, TAIL));
-    let p = pending(buf.len(), own, status, head, tail);
+    let status = memory::wide(dword_at(desc, STATUS));
+    let head = memory::wide(dword_at(desc, HEAD));
+    let tail = memory::wide(dword_at(desc, TAIL));
+    let p = numbers::pending(buf.len(), own, status, head, tail);
     let code = p.code;
     if code != 0 {
         return JudgedHeader {
@@ -79,7 +75,7 @@ pub fn receive_decision(fits: bool, own: usize, desc: &[u32], buf: &[u32]) -> Ju
         (receiveDecision fits own (now (desc .entry)) (length (now (buf .entry))) (getD (now (buf .entry)) own 0))
         own (now (buf .entry)) ⌝ }
 {
-    let code = first_needs(desc.len(), buf.len(), fits, 0);
+    let code = numbers::first_needs(desc.len(), buf.len(), fits, 0);
     if code != 0 {
         return JudgedHeader {
             code,
@@ -97,11 +93,11 @@ fn take_decision(fits: bool, own: usize, output: usize, desc: &[u32], buf: &[u32
         (takeDecision fits own output (now (desc .entry)) (length (now (buf .entry))) (getD (now (buf .entry)) own 0))
         own (now (buf .entry)) ⌝ }
 {
-    let code = first_needs(
+    let code = numbers::first_needs(
         desc.len(),
         buf.len(),
         fits,
-        need(MESSAGE_MAX <= output, refusal::SHORT_OUTPUT, 0),
+        numbers::need(MESSAGE_MAX <= output, refusal::SHORT_OUTPUT, 0),
     );
     if code != 0 {
         return JudgedHeader {
@@ -171,10 +167,10 @@ fn end_receive(desc: &mut [u32], end: WholeEnd)
         (marked (end .code) (now (desc .entry))) ⌝ }
 {
     if (end.code == 0) | (end.code == refusal::MALFORMED) {
-        publish_head(desc, end.own as u32);
+        memory::publish_head(desc, end.own as u32);
         return;
     }
-    mark(desc, end.code);
+    memory::mark(desc, end.code);
 }
 
 // A whole receive: with whether the receiver's state fits as idle, and its own head. What ends it needs what taking the

@@ -14,12 +14,8 @@ ghost use Rattle.ring.specs.Private.{PlacedBy};
 use crate::descriptor::HEAD;
 use crate::descriptor::STATUS;
 use crate::descriptor::TAIL;
-use crate::memory::mark;
-use crate::memory::publish_tail;
-use crate::memory::wide;
-use crate::numbers::first_needs;
-use crate::numbers::need;
-use crate::numbers::send_look_needs;
+use crate::memory;
+use crate::numbers;
 use crate::refusal;
 use message::dword_at;
 use runs::store_message;
@@ -44,14 +40,19 @@ pub fn send_decision(
     ensures { λ r. ⌜ r ≡ sendDecision fits own len header word (now (desc .entry)) n ⌝ }
 {
     let formed = message::starts_message(len, header, word);
-    let code = first_needs(desc.len(), n, fits, need(formed, refusal::BAD_MESSAGE, 0));
+    let code = numbers::first_needs(
+        desc.len(),
+        n,
+        fits,
+        numbers::need(formed, refusal::BAD_MESSAGE, 0),
+    );
     if code != 0 {
         return code;
     }
-    let status = wide(dword_at(desc, STATUS));
-    let head = wide(dword_at(desc, HEAD));
-    let tail = wide(dword_at(desc, TAIL));
-    send_look_needs(n, own, len, status, head, tail)
+    let status = memory::wide(dword_at(desc, STATUS));
+    let head = memory::wide(dword_at(desc, HEAD));
+    let tail = memory::wide(dword_at(desc, TAIL));
+    numbers::send_look_needs(n, own, len, status, head, tail)
 }
 
 // A whole send but for its end: decides, and stores the message where it is accepted. The descriptor is lent to be
@@ -88,10 +89,10 @@ fn end_send(desc: &mut [u32], end: WholeEnd)
         (marked (end .code) (now (desc .entry))) ⌝ }
 {
     if end.code == 0 {
-        publish_tail(desc, end.own as u32);
+        memory::publish_tail(desc, end.own as u32);
         return;
     }
-    mark(desc, end.code);
+    memory::mark(desc, end.code);
 }
 
 // A whole send: with whether the sender's state fits as idle, and its own tail. What ends it needs what placing the

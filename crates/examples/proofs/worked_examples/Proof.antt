@@ -44,8 +44,8 @@ unfolding
     Send.lookBy Send.moveNumber Send.moveBy Send.publishNumber Send.publishBy Send.goOnNumber Send.afterLook
     Receive.lookBy Receive.moveNumber Receive.moveBy Receive.publishNumberOf Receive.publishBy Receive.goOnNumber
     Receive.afterLook Receive.wholeNumber Receive.wholeBy
-    dwordAt Css.sizes Css.agree Css.spanOf Css.number Css.truncated Css.shown Css.place
-    Cpd.all Cpd.firstFrom Cpd.countFrom Cpd.isName Cpd.hasMarker Cpd.directoryNumber Cpd.firstEntry Cpd.entriesNamed Cpd.number Cpd.place
+    dwordAt Css.sizes Css.agree Css.spanOf Css.number Css.truncated Css.shown Css.part
+    Cpd.all Cpd.firstFrom Cpd.countFrom Cpd.isName Cpd.hasMarker Cpd.directoryNumber Cpd.firstEntry Cpd.entriesNamed Cpd.number Cpd.part
     reading manifestNumber manifestReading hucNumber hucReading
 examples =
     refl & refl & refl & refl & refl

@@ -13,7 +13,7 @@ use Rattle.firmware.proofs.cpd.cpd_located.Statement.{statement}
 use Rattle.firmware.proofs.cpd.cpd_located.Tie as tie
 
 returns : tie.Need-returns
-unfolding Cpd.number Cpd.place
+unfolding Cpd.number Cpd.part
 returns c =
     let at-key = c .before .before .before in
     let n = at-key .before .before .before .args .name .now in

@@ -8,7 +8,8 @@ use Rattle.firmware.proofs.figures.cpd_entry_figures.Statement.{stateme
 use Rattle.firmware.proofs.figures.cpd_entry_figures.Tie as tie
 
 returns : tie.Need-returns
-returns c = entry-refused _ (c .before .before .read-table .ensures) _ (c .if1 .taken)
+returns c =
+    c .of-table .ensures ∙ entry-refused _ (c .before .before .before .read-table .ensures) _ (c .before .if1 .taken)
 
 returns-2 : tie.Need-returns-2
 returns-2 c =
@@ -37,6 +38,7 @@ pub cpd-entry-figures-spec : {M : Type 1} → statement M
 cpd-entry-figures-spec =
     tie.close
     (tie.spec
+    (λ c κs. search needs)
     (λ c κs. search needs)
     returns
     (λ c κs. search needs)
