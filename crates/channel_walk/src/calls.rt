@@ -8,10 +8,6 @@ use say::two;
 use say::verdict;
 use stage::Ctb;
 use stage::Done;
-use stage::as_due;
-use stage::request;
-use stage::untouched;
-use stage::whole;
 
 // What opening answered, and the channel.
 pub(crate) fn open() -> Ctb {
@@ -41,14 +37,9 @@ pub(crate) fn after_receive(done: Done) -> Ctb {
     c
 }
 
-// A message by its fence, with its length, in a template for both.
-fn named(template: &[u8], header: u32, len: usize) {
-    two(template, (header / 0x1_0000) as u64, len as u64);
-}
-
 // The name of a whole send.
 fn sends(header: u32, len: usize) {
-    named(b"Send message %, length %", header, len);
+    say::by_fence(b"Send message %, length %", header, len);
 }
 
 // A whole send of any dwords, with a note on them.
@@ -60,19 +51,19 @@ pub(crate) fn send_noted(c: Ctb, note: &[u8], msg: &[u32]) -> Ctb {
 
 // A whole send of a request.
 pub(crate) fn send(c: Ctb, fence: u32, num_dwords: u32) -> Ctb {
-    let m = request(fence, num_dwords);
+    let m = stage::request(fence, num_dwords);
     let header = m[0];
-    let msg = whole(&m);
+    let msg = stage::message_in(&m);
     sends(header, msg.len());
     after_send(stage::send(c, msg))
 }
 
 // A send's look, with a request.
 pub(crate) fn send_look(c: Ctb, fence: u32, num_dwords: u32) -> Ctb {
-    let m = request(fence, num_dwords);
+    let m = stage::request(fence, num_dwords);
     let header = m[0];
-    let msg = whole(&m);
-    named(b"Sender looks with message %, length %", header, msg.len());
+    let msg = stage::message_in(&m);
+    say::by_fence(b"Sender looks with message %, length %", header, msg.len());
     after_send(stage::send_look(c, msg))
 }
 
@@ -99,32 +90,17 @@ pub(crate) fn send_publish(c: Ctb) -> Ctb {
     after_send(stage::send_publish(c))
 }
 
-// What a receive laid in its output.
-fn laid(so: bool, len: usize, header: u32) {
-    if !so {
-        text(b", OUTPUT WRONG");
-    } else if len == 0 {
-        text(b", output unchanged");
-    } else {
-        named(
-            b" message %, length %, as sent dword for dword",
-            header,
-            len,
-        );
-    }
-}
-
 // A whole receive, where a request is due.
 pub(crate) fn receive(c: Ctb, fence: u32, num_dwords: u32) -> Ctb {
-    receive_due(c, &request(fence, num_dwords))
+    receive_due(c, &stage::request(fence, num_dwords))
 }
 
 // A whole receive, where this message is due.
 pub(crate) fn receive_due(c: Ctb, due: &[u32; 256]) -> Ctb {
-    let mut out = untouched();
+    let mut out = stage::untouched();
     let done = stage::receive(c, &mut out);
     text(b"Receive");
-    laid(as_due(done.len, &out, due), done.len, out[0]);
+    say::laid(stage::as_due(done.len, &out, due), done.len, out[0]);
     after_receive(done)
 }
 
@@ -142,10 +118,10 @@ pub(crate) fn receive_copy(c: Ctb) -> Ctb {
 
 // A receive's publish, where a request is due.
 pub(crate) fn receive_publish(c: Ctb, fence: u32, num_dwords: u32) -> Ctb {
-    let due = request(fence, num_dwords);
-    let mut out = untouched();
+    let due = stage::request(fence, num_dwords);
+    let mut out = stage::untouched();
     let done = stage::receive_publish(c, &mut out);
     text(b"Receiver publishes");
-    laid(as_due(done.len, &out, &due), done.len, out[0]);
+    say::laid(stage::as_due(done.len, &out, &due), done.len, out[0]);
     after_receive(done)
 }

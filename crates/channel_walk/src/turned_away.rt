@@ -1,8 +1,5 @@
 // Calls with a message, a descriptor, a ring or an output that no call takes.
-use crate::calls::after_receive;
-use crate::calls::after_send;
-use crate::calls::open;
-use crate::calls::send_noted;
+use crate::calls;
 use channel::Receiver;
 use channel::Sender;
 use say::end;
@@ -18,7 +15,7 @@ pub(crate) fn turned_away() {
     text(b"\nTurned away for what the caller brings\n");
     open_over(&mut [0; 15], &[0; 1024]);
     open_over(&mut [0; 16], &[0; 1000]);
-    let c = open();
+    let c = calls::open();
     send_over_2048(c);
     receive_to_255(c);
     malformed_sends(c);
@@ -42,7 +39,7 @@ fn send_over_2048(c: Ctb) {
     let s = c.sender;
     let mut desc = c.desc;
     let mut ring = [0u32; 2048];
-    let sent = s.send(&mut desc, &mut ring, stage::whole(&m));
+    let sent = s.send(&mut desc, &mut ring, stage::message_in(&m));
     one(b"Send with ring length %", ring.len() as u64);
     verdict(sent.code);
     end();
@@ -62,14 +59,14 @@ fn receive_to_255(c: Ctb) {
 
 // Sends of dwords that are no message.
 fn malformed_sends(c: Ctb) {
-    send_noted(c, b", a dword short", &[0x0018_0002, 0]);
-    send_noted(c, b", format 1", &[0x0018_1001, 0]);
-    send_noted(c, b", a header alone", &[0x0018_0000]);
+    calls::send_noted(c, b", a dword short", &[0x0018_0002, 0]);
+    calls::send_noted(c, b", format 1", &[0x0018_1001, 0]);
+    calls::send_noted(c, b", a header alone", &[0x0018_0000]);
 }
 
 // A send of a message of type 4.
 pub(crate) fn send_malformed(c: Ctb) -> Ctb {
-    send_noted(c, b", type 4", &[0x0013_0001, 0x4000_0000])
+    calls::send_noted(c, b", type 4", &[0x0013_0001, 0x4000_0000])
 }
 
 // A send's store over a descriptor that is a dword short.
@@ -86,7 +83,7 @@ pub(crate) fn store_over_15(c: Ctb) -> Ctb {
     let mut next = c;
     next.buf = buf;
     next.sender = sender;
-    after_send(answered(sent.code, next))
+    calls::after_send(answered(sent.code, next))
 }
 
 // A call's answer with no length.
@@ -104,7 +101,7 @@ pub(crate) fn copy_over_1000(c: Ctb) -> Ctb {
     let receiver = stepped.next;
     let mut next = c;
     next.receiver = receiver;
-    after_receive(answered(stepped.code, next))
+    calls::after_receive(answered(stepped.code, next))
 }
 
 // A receive's publish to an output that is a dword short.
@@ -119,5 +116,5 @@ pub(crate) fn publish_to_255(c: Ctb) -> Ctb {
     let mut next = c;
     next.desc = desc;
     next.receiver = receiver;
-    after_receive(answered(got.code, next))
+    calls::after_receive(answered(got.code, next))
 }

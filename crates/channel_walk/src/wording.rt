@@ -1,6 +1,9 @@
 // What follows a call's verdict: the state of the side that made it, and the descriptor.
 use channel::Receiver;
 use channel::Sender;
+use ring::HEAD;
+use ring::STATUS;
+use ring::TAIL;
 use say::one;
 use say::two;
 use stage::Ctb;
@@ -34,5 +37,5 @@ pub(crate) fn receiver(r: Receiver) {
 // The descriptor of a channel; ends the line.
 pub(crate) fn descriptor(c: Ctb) {
     let desc = c.desc;
-    say::descriptor(desc[0], desc[1], desc[2]);
+    say::descriptor(desc[HEAD], desc[TAIL], desc[STATUS]);
 }

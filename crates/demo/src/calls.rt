@@ -1,14 +1,17 @@
 // The calls, each with the line that says what came of it.
+use ring::HEAD;
+use ring::STATUS;
+use ring::TAIL;
 use stage::Ctb;
 use stage::Done;
+use stage::message_in;
 use stage::request;
 use stage::untouched;
-use stage::whole;
 
 // The picture of the ring as it is now.
 pub(crate) fn picture(c: Ctb) -> Ctb {
     let desc = c.desc;
-    say::ring(desc[0], desc[1], desc[2]);
+    say::ring(desc[HEAD], desc[TAIL], desc[STATUS]);
     c
 }
 
@@ -25,17 +28,6 @@ pub(crate) fn open(c: Ctb) -> Ctb {
     after(stage::open(c))
 }
 
-// Somebody else writes TAIL.
-pub(crate) fn with_tail(c: Ctb, value: u32) -> Ctb {
-    let desc = c.desc;
-    say::two(
-        b"  Somebody changes TAIL from % to %\n",
-        desc[1] as u64,
-        value as u64,
-    );
-    stage::with_word(c, 1, value)
-}
-
 // Somebody else writes a dword of the ring.
 pub(crate) fn with_dword(c: Ctb, place: usize, value: u32) -> Ctb {
     say::two(
@@ -49,9 +41,9 @@ pub(crate) fn with_dword(c: Ctb, place: usize, value: u32) -> Ctb {
 // A whole send of a request.
 pub(crate) fn send(c: Ctb, fence: u32, num_dwords: u32) -> Ctb {
     let m = request(fence, num_dwords);
-    let msg = whole(&m);
+    let msg = message_in(&m);
     say::two(
-        b"  Send message %, % dwords",
+        b"  Send message %, length %",
         fence as u64,
         msg.len() as u64,
     );
@@ -61,7 +53,7 @@ pub(crate) fn send(c: Ctb, fence: u32, num_dwords: u32) -> Ctb {
 // A send's look, with any message.
 pub(crate) fn send_look(c: Ctb, msg: &[u32]) -> Ctb {
     say::one(
-        b"  Sender looks with a message of % dwords",
+        b"  Sender looks with a message of length %",
         msg.len() as u64,
     );
     after(stage::send_look(c, msg))
@@ -85,25 +77,12 @@ pub(crate) fn send_publish(c: Ctb) -> Ctb {
     after(stage::send_publish(c))
 }
 
-// What a receive laid in its output, where a message is due.
-fn laid(as_due: bool, len: usize, header: u32) {
-    if !as_due {
-        say::text(b", NOT AS SENT");
-    } else if len != 0 {
-        say::two(
-            b" message %, % dwords, every dword as sent",
-            (header / 0x1_0000) as u64,
-            len as u64,
-        );
-    }
-}
-
 // A whole receive, where a request is due. An output that nothing is laid in stays.
 pub(crate) fn receive(c: Ctb, fence: u32, num_dwords: u32) -> Ctb {
     let mut out = untouched();
     let done = stage::receive(c, &mut out);
     say::text(b"  Receive");
-    laid(
+    say::laid(
         stage::as_due(done.len, &out, &request(fence, num_dwords)),
         done.len,
         out[0],

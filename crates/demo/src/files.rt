@@ -1,46 +1,27 @@
 // Firmware files: an image judged and handed out in parts, files put in its place, a directory with an image in it, and
 // one that has the image's name twice.
-use firmware::ImageAnswer;
 use firmware::Sizes;
-use firmware::Version;
-use stage::Blob;
+use stage::Room;
 use stage::cut;
 
 // A file that is an image with h as given, s 40, k 1, m 1, e 1.
-fn image(h: usize) -> Blob {
-    let mut blob = stage::blank();
-    stage::put_image(&mut blob, 0, sizes(h));
-    blob
-}
-
-fn sizes(h: usize) -> Sizes {
-    Sizes {
+fn image(h: usize) -> Room {
+    let mut room = stage::blank();
+    let z = Sizes {
         h,
         s: 40,
         k: 1,
         m: 1,
         e: 1,
-    }
+    };
+    stage::put_image(&mut room, 0, z);
+    room
 }
 
-// What an image was answered; ends the line.
-fn verdict(a: ImageAnswer, v: Version) {
-    say::verdict(a.code);
-    if a.code == 0 {
-        say::either(a.truncated, b", truncated, version ", b", whole, version ");
-        say::image_version(v);
-    }
-    say::end();
-}
-
-// A file by its length: what it was answered, and where its parts lie, where it is accepted.
+// A file by its length: what it is answered, and where its parts lie.
 fn judged(blob: &[u8]) {
     say::one(b"  A file of % bytes", blob.len() as u64);
-    let a = firmware::css_answer(blob);
-    verdict(a, firmware::css_version(blob));
-    if a.code == 0 {
-        say::image_parts(blob);
-    }
+    say::image(blob);
 }
 
 // One image, and what is put in its place.
@@ -57,17 +38,9 @@ pub(crate) fn images() {
     judged(cut(&image(36), 160));
 }
 
-// A directory with HUCP.man, of version 9.4.2.0, from byte 68 to 112 and that image as huc_fw from there to 272; the
-// first entry's name is given.
-fn directory(first: &[u8]) -> Blob {
-    let mut blob = stage::blank();
-    stage::put_directory(&mut blob, 2, 20);
-    stage::put_entry(&mut blob, 20, first, 68, 44);
-    stage::put_entry(&mut blob, 44, b"huc_fw", 112, 160);
-    stage::put_dword(&mut blob, 104, 0x0004_0009);
-    stage::put_dword(&mut blob, 108, 0x0000_0002);
-    stage::put_image(&mut blob, 112, sizes(35));
-    blob
+// A directory with a manifest under that name from byte 68 to 112, and that image as huc_fw from there to 272.
+fn directory(first: &[u8]) -> Room {
+    stage::huc_directory(first, 44, 160, 35)
 }
 
 // A name sought in a directory.
@@ -86,11 +59,7 @@ fn sought(blob: &[u8], name: &[u8]) {
 // The image that a directory has under huc_fw.
 fn image_inside(blob: &[u8]) {
     say::text(b"  The image in huc_fw, as a file of its own");
-    let a = firmware::huc_answer(blob);
-    verdict(a, firmware::huc_version(blob));
-    if a.code == 0 {
-        say::inner_parts(blob);
-    }
+    say::inner_image(blob);
 }
 
 // A directory, its parts, and the image in one of them.

@@ -5,13 +5,13 @@ use crate::calls::send_look;
 use crate::calls::send_publish;
 use crate::calls::send_store;
 use stage::Ctb;
+use stage::message_in;
 use stage::request;
-use stage::whole;
 
 // The caller overwrites its message after the look; what is stored is the sender's own copy.
 fn swapped_after_look(c: Ctb) -> Ctb {
     let mut m = request(14, 2);
-    let next = send_look(c, whole(&m));
+    let next = send_look(c, message_in(&m));
     let before = m[2];
     m[2] = 0xdead_beef;
     changed(before, m[2]);

@@ -4,7 +4,6 @@ use crate::calls::picture;
 use crate::calls::receive;
 use crate::calls::send;
 use crate::calls::with_dword;
-use crate::calls::with_tail;
 use stage::Ctb;
 
 // A header that says 38 dwords where 10 are, and a channel that stays broken until it is opened again.
@@ -31,7 +30,8 @@ pub(crate) fn malformed(c: Ctb) -> Ctb {
 // TAIL moved behind the sender's back.
 pub(crate) fn rewritten(c: Ctb) -> Ctb {
     say::text(b"\n7. A rewritten offset is noticed\n");
-    let c = with_tail(c, 700);
+    say::text(b"  Somebody changes TAIL to 700\n");
+    let c = stage::with_word(c, ring::TAIL, 700);
     let c = picture(send(c, 13, 1));
     open(c)
 }

@@ -1,30 +1,25 @@
 // Code partition directories: their own numbers, and where the part of a name lies.
-use crate::wording::nowhere;
+use crate::wording::found;
 use crate::wording::verdict;
-use firmware::Located;
 use say::four;
 use say::one;
 use say::text;
 use say::two;
-use stage::Blob;
-use stage::blank;
+use stage::Room;
 use stage::cut;
-use stage::put_byte;
-use stage::put_directory;
-use stage::put_entry;
 
 // Two entries after a header of 20 bytes, so that they end at byte 68, and room behind them.
 // The second entry's part is given.
-pub(crate) fn two_entries(second: &[u8], offset: u32, len: u32) -> Blob {
-    let mut blob = blank();
-    put_directory(&mut blob, 2, 20);
-    put_entry(&mut blob, 20, b"twelve_bytes", 70, 5);
-    put_entry(&mut blob, 44, second, offset, len);
-    blob
+pub(crate) fn two_entries(second: &[u8], offset: u32, len: u32) -> Room {
+    let mut room = stage::blank();
+    stage::put_directory(&mut room, 2, 20);
+    stage::put_entry(&mut room, 20, b"twelve_bytes", 70, 5);
+    stage::put_entry(&mut room, 44, second, offset, len);
+    room
 }
 
 // The same, with a part of the name huc_fw.
-pub(crate) fn with_huc(offset: u32, len: u32) -> Blob {
+pub(crate) fn with_huc(offset: u32, len: u32) -> Room {
     two_entries(b"huc_fw", offset, len)
 }
 
@@ -49,63 +44,52 @@ fn listed_name(blob: &[u8], i: usize) {
 }
 
 // The first len bytes of a directory.
-fn listed_to(blob: &Blob, len: usize) {
-    listed(cut(blob, len));
+fn listed_to(room: &Room, len: usize) {
+    listed(cut(room, len));
 }
 
 // A directory's own numbers: 15, 18 and 19.
 pub(crate) fn entries() {
     text(b"\nA directory of two entries after a header of 20 bytes: the entries end at 68\n");
-    let blob = two_entries(b"name_of_this", 68, 0);
-    listed_to(&blob, 19);
-    listed_to(&blob, 20);
-    listed_to(&blob, 67);
-    listed_to(&blob, 68);
-    with_header_length(blob, 19);
-    with_header_length(blob, 21);
+    let room = two_entries(b"name_of_this", 68, 0);
+    listed_to(&room, 19);
+    listed_to(&room, 20);
+    listed_to(&room, 67);
+    listed_to(&room, 68);
+    with_header_length(room, 19);
+    with_header_length(room, 21);
     with_count(0, 20);
     with_count(0xffff_ffff, 100);
-    with_other_marker(blob);
+    with_other_marker(room);
 }
 
 // The same with another header length.
-fn with_header_length(blob: Blob, len: u8) {
-    let mut other = blob;
-    put_byte(&mut other, 10, len);
+fn with_header_length(room: Room, len: u8) {
+    let mut other = room;
+    stage::put_byte(&mut other, 10, len);
     one(b"Header length %: ", len as u64);
     listed_to(&other, 68);
 }
 
 // A directory with that entry count and no entries laid.
 fn with_count(count: u32, len: usize) {
-    let mut blob = blank();
-    put_directory(&mut blob, count, 20);
+    let mut room = stage::blank();
+    stage::put_directory(&mut room, count, 20);
     one(b"Entry count %: ", count as u64);
-    listed_to(&blob, len);
+    listed_to(&room, len);
 }
 
 // A marker whose last byte is in lower case.
-fn with_other_marker(blob: Blob) {
-    let mut other = blob;
-    put_byte(&mut other, 3, b'd');
+fn with_other_marker(room: Room) {
+    let mut other = room;
+    stage::put_byte(&mut other, 3, b'd');
     text(b"Marker $CPd: ");
     listed_to(&other, 68);
 }
 
-// Where a part lies, or that there is none, and what was answered.
-pub(crate) fn found(l: Located) {
-    if nowhere(l) {
-        text(b", no part");
-    } else {
-        text(b", part ");
-        say::part(l);
-    }
-    verdict(l.code);
-}
-
 // Seeks huc_fw.
-pub(crate) fn found_huc(blob: &Blob, len: usize) {
-    found(firmware::cpd_located(cut(blob, len), b"huc_fw"));
+pub(crate) fn found_huc(room: &Room, len: usize) {
+    found(firmware::cpd_located(cut(room, len), b"huc_fw"));
 }
 
 // Parts that end where the blob ends, or a byte later.
@@ -125,7 +109,7 @@ pub(crate) fn parts() {
 
 // A part with that offset and length, in a blob of so many bytes.
 fn part_at(offset: u32, len: u32, bytes: usize) {
-    let blob = with_huc(offset, len);
+    let room = with_huc(offset, len);
     four(
         b"Offset %, length %, in % bytes",
         offset as u64,
@@ -133,12 +117,12 @@ fn part_at(offset: u32, len: u32, bytes: usize) {
         bytes as u64,
         0,
     );
-    found_huc(&blob, bytes);
+    found_huc(&room, bytes);
 }
 
 // A part of 8 bytes with that offset as it is stored.
 fn part_with_bits(offset: u32) {
-    let blob = with_huc(offset, 8);
+    let room = with_huc(offset, 8);
     one(b"Offset &, length 8, in 100 bytes", offset as u64);
-    found_huc(&blob, 100);
+    found_huc(&room, 100);
 }

@@ -1,67 +1,39 @@
 // CSS images: judged at each length, and with sizes that disagree.
-use crate::wording::Parts;
-use crate::wording::each_part;
-use crate::wording::image;
-use crate::wording::parts_or_none;
 use firmware::Component;
 use firmware::Sizes;
-use firmware::css_located;
 use say::end;
 use say::four;
 use say::one;
 use say::text;
-use stage::Blob;
+use stage::Room;
 use stage::cut;
 
-// An image at a blob's start, with room behind it.
-fn blob_of(z: Sizes) -> Blob {
-    let mut blob = stage::blank();
-    stage::put_image(&mut blob, 0, z);
-    blob
+// An image at a room's start.
+fn room_of(z: Sizes) -> Room {
+    let mut room = stage::blank();
+    stage::put_image(&mut room, 0, z);
+    room
 }
 
 fn sizes(h: usize, s: usize, k: usize, m: usize, e: usize) -> Sizes {
     Sizes { h, s, k, m, e }
 }
 
-// Where the parts of an image lie.
-fn located(blob: &[u8]) -> Parts {
-    Parts {
-        ucode: css_located(blob, Component::Ucode),
-        rsa: css_located(blob, Component::Rsa),
-        modulus: css_located(blob, Component::Modulus),
-        exponent: css_located(blob, Component::Exponent),
-    }
-}
-
-// What a blob is answered, and its version.
-fn answered(blob: &[u8]) {
-    image(firmware::css_answer(blob), firmware::css_version(blob));
-}
-
-// What a blob is answered, its version, and where its parts lie.
-fn judged(blob: &[u8]) {
-    answered(blob);
-    parts_or_none(located(blob));
-}
-
-// The name of a blob by its length.
-fn of_length(len: usize) {
-    one(b"% bytes", len as u64);
-}
-
 // The first len bytes, judged.
-fn judged_to(blob: &Blob, len: usize) {
-    of_length(len);
-    judged(cut(blob, len));
+fn judged_to(room: &Room, len: usize) {
+    one(b"% bytes", len as u64);
+    say::image(cut(room, len));
 }
 
-// The same, with each part even where there is none.
-fn judged_in_full(blob: &Blob, len: usize) {
-    of_length(len);
-    let first = cut(blob, len);
-    answered(first);
-    each_part(located(first));
+// What else is answered where an image is refused: the same number, and the empty part at byte 0.
+fn refused_as_well(blob: &[u8]) {
+    text(b"    ");
+    say::image_version(firmware::css_version(blob));
+    text(b"; uCode ");
+    say::part(firmware::css_located(blob, Component::Ucode));
+    text(b"; exponent ");
+    say::part(firmware::css_located(blob, Component::Exponent));
+    end();
 }
 
 // The sizes that a line is about.
@@ -82,14 +54,15 @@ pub(crate) fn by_length() {
     text(b"\nAn image with ");
     described(z);
     text(b"\nuCode and RSA end at 4384, all ends at 4644; bytes past it belong to no part\n");
-    let blob = blob_of(z);
-    judged_in_full(&blob, 127);
-    judged_to(&blob, 128);
-    judged_to(&blob, 4383);
-    judged_to(&blob, 4384);
-    judged_to(&blob, 4643);
-    judged_to(&blob, 4644);
-    judged_to(&blob, 4700);
+    let room = room_of(z);
+    judged_to(&room, 127);
+    refused_as_well(cut(&room, 127));
+    judged_to(&room, 128);
+    judged_to(&room, 4383);
+    judged_to(&room, 4384);
+    judged_to(&room, 4643);
+    judged_to(&room, 4644);
+    judged_to(&room, 4700);
 }
 
 // The smallest image: its modulus and exponent have no bytes, so they are shown empty at its end.
@@ -98,17 +71,17 @@ pub(crate) fn smallest() {
     text(b"\nThe smallest image, with ");
     described(z);
     end();
-    let blob = blob_of(z);
-    judged_to(&blob, 135);
-    judged_to(&blob, 136);
+    let room = room_of(z);
+    judged_to(&room, 135);
+    judged_to(&room, 136);
 }
 
 // A blob of 4,644 bytes with those sizes, after a note on them.
 fn wrong(note: &[u8], z: Sizes) {
     text(note);
     described(z);
-    let blob = blob_of(z);
-    judged(cut(&blob, 4644));
+    let room = room_of(z);
+    say::image(cut(&room, 4644));
 }
 
 // Sizes of which one is wrong, and a sum that is h only modulo 2^32.

@@ -1,46 +1,20 @@
 // Parts inside a directory: manifests, and images judged as blobs of their own.
 use crate::names::put_huc;
-use crate::wording::Parts;
-use crate::wording::image;
-use crate::wording::parts_or_none;
 use crate::wording::verdict;
-use firmware::Component;
 use firmware::ManifestVersion;
-use firmware::Sizes;
-use firmware::huc_located;
-use say::end;
-use say::one;
 use say::text;
 use say::two;
-use stage::Blob;
+use stage::Room;
 use stage::cut;
-use stage::put_dword;
-use stage::put_entry;
 
-// A directory with a manifest of version 9.4.2.0 at byte 68 and an image at byte 112: uCode of 5 dwords, and 1 dword
-// each for RSA, modulus and exponent. The image ends at byte 272; what its entry says of its length is given, and so is
-// h.
-fn directory(manifest_len: u32, image_len: u32, h: usize) -> Blob {
-    let mut blob = stage::blank();
-    stage::put_directory(&mut blob, 2, 20);
-    put_manifest(&mut blob, 20, 68, manifest_len);
-    put_huc(&mut blob, 44, 112, image_len);
-    put_dword(&mut blob, 104, 0x0004_0009);
-    put_dword(&mut blob, 108, 0x0000_0002);
-    let z = Sizes {
-        h,
-        s: 40,
-        k: 1,
-        m: 1,
-        e: 1,
-    };
-    stage::put_image(&mut blob, 112, z);
-    blob
+// A directory with the manifest under its own name at byte 68 and the image at byte 112, of those lengths.
+fn directory(manifest_len: u32, image_len: u32, h: usize) -> Room {
+    stage::huc_directory(b"HUCP.man", manifest_len, image_len, h)
 }
 
 // An entry of the manifest's name.
 fn put_manifest(s: &mut [u8], at: usize, offset: u32, len: u32) {
-    put_entry(s, at, b"HUCP.man", offset, len);
+    stage::put_entry(s, at, b"HUCP.man", offset, len);
 }
 
 // Manifests on both sides of 44 bytes, and blobs without one.
@@ -56,20 +30,20 @@ pub(crate) fn manifests() {
 
 // A manifest of that length, in a blob of so many bytes.
 fn manifest_of(len: u32, bytes: usize) {
-    let blob = directory(len, 160, 35);
+    let room = directory(len, 160, 35);
     two(b"Length %, in % bytes", len as u64, bytes as u64);
-    manifest(&blob, bytes);
+    manifest(&room, bytes);
 }
 
 // What a manifest is answered, or its version.
-fn manifest(blob: &Blob, bytes: usize) {
-    let v = firmware::manifest_version(cut(blob, bytes));
+fn manifest(room: &Room, bytes: usize) {
+    let v = firmware::manifest_version(cut(room, bytes));
     match v {
         ManifestVersion::Refused(code) => verdict(code),
         _ => {
             text(b": accepted; firmware version ");
             say::manifest_version(v);
-            end();
+            say::end();
         }
     }
 }
@@ -77,7 +51,7 @@ fn manifest(blob: &Blob, bytes: usize) {
 // Another name in its place, and its name twice.
 fn other_manifests() {
     let mut other = directory(44, 160, 35);
-    put_entry(&mut other, 20, b"HUCP.met", 68, 44);
+    stage::put_entry(&mut other, 20, b"HUCP.met", 68, 44);
     text(b"HUCP.met instead");
     manifest(&other, 300);
     put_manifest(&mut other, 20, 68, 44);
@@ -86,32 +60,16 @@ fn other_manifests() {
     manifest(&other, 300);
 }
 
-// Where the parts of the image in a directory lie, in the directory's blob.
-fn located(blob: &[u8]) -> Parts {
-    Parts {
-        ucode: huc_located(blob, Component::Ucode),
-        rsa: huc_located(blob, Component::Rsa),
-        modulus: huc_located(blob, Component::Modulus),
-        exponent: huc_located(blob, Component::Exponent),
-    }
-}
-
-// The image in a directory: what it is answered, its version, and where its parts lie.
-fn judged(blob: &[u8]) {
-    image(firmware::huc_answer(blob), firmware::huc_version(blob));
-    parts_or_none(located(blob));
-}
-
-// The same for the first bytes of a blob.
-fn judged_to(blob: &Blob, bytes: usize) {
-    judged(cut(blob, bytes));
+// The image in the first bytes of a directory, judged.
+fn judged_to(room: &Room, bytes: usize) {
+    say::inner_image(cut(room, bytes));
 }
 
 // An image in a part of that length, with that h.
 fn image_of(len: u32, h: usize) {
-    let blob = directory(44, len, h);
+    let room = directory(44, len, h);
     two(b"Length %, h %", len as u64, h as u64);
-    judged_to(&blob, 300);
+    judged_to(&room, 300);
 }
 
 // Images that are accepted.
@@ -122,10 +80,10 @@ pub(crate) fn whole_images() {
     image_of(188, 35);
     image_of(159, 35);
     image_of(152, 35);
-    let mut blob = directory(44, 160, 35);
-    put_dword(&mut blob, 56, 0x0200_0070);
+    let mut room = directory(44, 160, 35);
+    stage::put_dword(&mut room, 56, 0x0200_0070);
     text(b"Length 160, h 35, offset 112 with bit 25 set");
-    judged_to(&blob, 300);
+    judged_to(&room, 300);
 }
 
 // Images that the image's rules or the directory's refuse.
@@ -142,13 +100,13 @@ pub(crate) fn refused_images() {
 // Another name in its place, entries cut off, and its name twice.
 fn other_images() {
     let mut other = directory(44, 160, 35);
-    one(b"In % bytes", 67);
+    text(b"In 67 bytes");
     judged_to(&other, 67);
     put_huc(&mut other, 20, 112, 160);
     text(b"huc_fw twice");
     judged_to(&other, 300);
     put_manifest(&mut other, 20, 68, 44);
-    put_entry(&mut other, 44, b"huc_fwx", 112, 160);
+    stage::put_entry(&mut other, 44, b"huc_fwx", 112, 160);
     text(b"huc_fwx instead");
     judged_to(&other, 300);
 }

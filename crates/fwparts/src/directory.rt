@@ -219,7 +219,7 @@ fn manifest(blob: &[u8]) {
     }
 }
 
-// The image in huc_fw, which is judged as a blob of its own, with its parts' places in the file.
+// The image in huc_fw, which is judged as a blob of its own, with where its parts lie in the file.
 fn image(blob: &[u8]) {
     say::text(b"  image huc_fw");
     let f = firmware::huc_figures(blob);

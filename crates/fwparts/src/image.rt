@@ -40,9 +40,9 @@ fn accepted(blob: &[u8], which: usize, expect: Expected) -> u32 {
 
 // What an accepted image has beside header, uCode and RSA; ends the line.
 pub(crate) fn left_out(f: firmware::Figures) {
-    let how = if f.there == f.whole {
+    let how = if f.there == f.complete {
         0
-    } else if f.whole < f.there {
+    } else if f.complete < f.there {
         1
     } else if f.there == f.needed {
         2
@@ -93,7 +93,7 @@ pub(crate) fn figures(blob: &[u8], class: u32) {
         say::four(
             b"  % bytes of a CSS image that has % when it is whole, and at least %\n",
             f.there as u64,
-            f.whole as u64,
+            f.complete as u64,
             f.needed as u64,
             0,
         );

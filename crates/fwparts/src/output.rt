@@ -121,8 +121,8 @@ fn stored(bytes: &[u8], path: &[u8]) -> i32 {
     if fd < 0 {
         return os::errno();
     }
-    let whole = io::write_all(fd, bytes);
-    let mut error = if whole { 0 } else { os::errno() };
+    let written = io::write_all(fd, bytes);
+    let mut error = if written { 0 } else { os::errno() };
     let closed = libc::close(fd);
     if (closed < 0) & (error == 0) {
         error = os::errno();

@@ -30,6 +30,26 @@ pub fn verdict(code: u32) {
     number(code);
 }
 
+// A message by its fence and its length, in a template for both.
+pub fn by_fence(t: &[u8], header: u32, len: usize) {
+    two(t, (header / 0x1_0000) as u64, len as u64);
+}
+
+// What a receive laid in its output, which is as due or not.
+pub fn laid(as_due: bool, len: usize, header: u32) {
+    if !as_due {
+        text(b", OUTPUT WRONG");
+    } else if len == 0 {
+        text(b", output unchanged");
+    } else {
+        by_fence(
+            b" message %, length %, as sent dword for dword",
+            header,
+            len,
+        );
+    }
+}
+
 // HEAD and TAIL, what is used and free by them where both lie in the ring, and STATUS; ends the line.
 pub fn descriptor(head: u32, tail: u32, broken: u32) {
     let h = head as usize;

@@ -1,5 +1,6 @@
 // Templates: a line as a reader will see it, with a mark for each number in it. One text for a line and not one for
-// each of its pieces: a text in code costs the prover a third of a second, whatever its length.
+// each of its pieces: a call with a text in it costs the prover some 0.17 s, whatever
+// the text's length, three times what a call without one does.
 
 // Where a number goes: in decimal, or as a dword, 0x and eight digits.
 const DECIMAL: u8 = b'%';

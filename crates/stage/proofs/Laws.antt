@@ -1,4 +1,4 @@
--- Laws of what scenes are built with: bytes laid from a place on, dwords that count up, a part at the front, and what packing answers.
+-- Laws of what scenes are built with: bytes laid from a place on, dwords that count up, the front of dwords, and what packing answers.
 use Prim.Native.Nat.{ℕ, zero, suc, _+_, _-_, _%_, _^_, _≤_, _<_}
 use mathlib.Core.Path.{_≡_, refl, sym, ap, _∙_}
 use mathlib.Core.List.{List, [], _∷_, _++_, append-nil}
@@ -18,12 +18,12 @@ use Rattle.stage.specs.Files.{Laying, from}
 use Rattle.stage.specs.Dwords.{counting, FrontOf}
 use Rattle.stage.specs.Messages.{dwordsOf}
 
--- what is laid in the part from `at` on is laid from there
-pub from-part :
+-- what is laid in the bytes from `at` on is laid from there
+pub from-there :
     (at : ℕ) (lay : Laying) (s ys : List ℕ) → at ≤ length s → ys ≡ lay (take (length s - at) (drop at s))
     → putMid at (length s - at) s ys ≡ from at lay s
 unfolding from
-from-part at lay s ys h e =
+from-there at lay s ys h e =
     let l : length (drop at s) ≤ length s - at = simp length-drop (omega arith) in
     let none : drop (length s - at) (drop at s) ≡ [] = drop-of-length-le (drop at s) {i = length s - at} l in
     let whole : take (length s - at) (drop at s) ≡ drop at s = take-all (length s - at) (drop at s) l in
@@ -52,7 +52,7 @@ length-counting first (suc k) = ap suc (length-counting ((first + 1) % 2 ^ 32) k
 
 -- all of what was lent is its front
 pub front-all : (s : RefT (List ℕ)) (n : ℕ) → length (now s) < n → FrontOf s (take n (now s)) s
-front-all s n h = record { holds = sym (take-all n (now s) (omega arith)); same-block = refl; same-place = refl }
+front-all s n h = record { holds = sym (take-all n (now s) (omega arith)); same-block = refl; same-start = refl }
 
 -- what packing answers, as the dwords that are made of it
 packed-as : (m : Message) (p : Packed) → ofPacked p ≡ packAnswer m → dwordsOf (ofPacked p .value) ≡ dwordsOf (pack m)

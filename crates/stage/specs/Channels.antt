@@ -10,19 +10,19 @@ use Rattle.channel.specs.Operations.{Op, gives}
 use Rattle.stage.specs.declared.channels.Ctb.{Ctb}
 use Rattle.stage.specs.declared.channels.Done.{Done}
 
--- a channel's four parts, its sides as states
-pub record Parts : Type 0 where
+-- what a channel is made of, its sides as states
+pub record Contents : Type 0 where
   pub desc : List ℕ
   pub buf : List ℕ
   pub sender : State
   pub receiver : State
 
-abbrev pub partsOf : Ctb → Parts
-partsOf c = record { desc = c .desc; buf = c .buf; sender = ofSender (c .sender); receiver = ofReceiver (c .receiver) }
+abbrev pub contentsOf : Ctb → Contents
+contentsOf c = record { desc = c .desc; buf = c .buf; sender = ofSender (c .sender); receiver = ofReceiver (c .receiver) }
 
 -- a ring of zeros under a descriptor that has other words, and two states that fit no call
-abbrev pub unopenedParts : Parts
-unopenedParts =
+abbrev pub unopenedContents : Contents
+unopenedContents =
     record { desc = replicate 16 9; buf = replicate 1024 0; sender = idleAt 0 0; receiver = idleAt 0 0 }
 
 -- what an opening answered, which has no length, and left
@@ -70,11 +70,11 @@ pub record ReceiverDid (op : Op) (out : List ℕ) (c : Ctb) (r : Done) : Type 0 
   pub leaves : r .ctb .sender ≡ c .sender
 
 -- what somebody else writes: a word of the descriptor, a dword of the ring, another sender's state
-abbrev pub withDesc : List ℕ → Parts → Parts
+abbrev pub withDesc : List ℕ → Contents → Contents
 withDesc d p = record { desc = d; buf = p .buf; sender = p .sender; receiver = p .receiver }
 
-abbrev pub withBuf : List ℕ → Parts → Parts
+abbrev pub withBuf : List ℕ → Contents → Contents
 withBuf b p = record { desc = p .desc; buf = b; sender = p .sender; receiver = p .receiver }
 
-abbrev pub withSender : State → Parts → Parts
+abbrev pub withSender : State → Contents → Contents
 withSender s p = record { desc = p .desc; buf = p .buf; sender = s; receiver = p .receiver }

@@ -1,4 +1,4 @@
--- Dwords that programs fill, and show a part of. Ours: no paper speaks of scenes.
+-- Dwords that programs fill, and show the front of. Ours: no paper speaks of scenes.
 use Prim.Native.Nat.{ℕ, zero, suc, _+_, _%_, _^_}
 use mathlib.Core.Path.{_≡_}
 use mathlib.Core.List.{List, [], _∷_}
@@ -9,8 +9,8 @@ unfoldable pub counting : ℕ → ℕ → List ℕ
 counting first zero = []
 counting first (suc k) = first ∷ counting ((first + 1) % 2 ^ 32) k
 
--- a part that starts where what was lent starts, and holds these
+-- a slice that starts where what was lent starts, and holds these
 pub record FrontOf (s : RefT (List ℕ)) (held : List ℕ) (r : RefT (List ℕ)) : Type 0 where
   pub holds : now r ≡ held
   pub same-block : ptr r .0 ≡ ptr s .0
-  pub same-place : ptr r .1 ≡ ptr s .1
+  pub same-start : ptr r .1 ≡ ptr s .1

@@ -5,6 +5,7 @@ use mathlib.Core.Bool.{cond}
 use mathlib.Core.List.{List, _++_}
 use lib.ListN.{length, getD, set, take, drop}
 use lib.Dec.{leb}
+use Rattle.firmware.specs.Inside.{hucName}
 use Rattle.firmware.specs.declared.css.Sizes.{Sizes}
 
 -- what is done to bytes
@@ -24,12 +25,12 @@ unfoldable pub dword : ℕ → ℕ → Laying
 dword at v = from at (four (v % 0x100) (v / 0x100 % 0x100) (v / 0x10000 % 0x100) (v / 0x1000000))
 
 -- four bytes of a name, zero padded, from byte j of it on, at byte j
-unfoldable pub padded : List ℕ → ℕ → Laying
-padded x j = from j (four (getD x j 0) (getD x (j + 1) 0) (getD x (j + 2) 0) (getD x (j + 3) 0))
+unfoldable pub nameBytes : List ℕ → ℕ → Laying
+nameBytes x j = from j (four (getD x j 0) (getD x (j + 1) 0) (getD x (j + 2) 0) (getD x (j + 3) 0))
 
 -- 'name 12 bytes (zero padded)'
 unfoldable pub name : List ℕ → Laying
-name x s = padded x 8 (padded x 4 (padded x 0 s))
+name x s = nameBytes x 8 (nameBytes x 4 (nameBytes x 0 s))
 
 -- 'Dwords: 1 = h .., 6 = s .., 7 = k .., 8 = m .., 9 = e .., 16 = version': an image's header, with the low 32 bits of
 -- each size, of version 70.5.1
@@ -46,3 +47,11 @@ directory n h s = set (dword 4 n (dword 0 0x44504324 s)) 10 h
 -- 'An entry: name 12 bytes (zero padded), offset dword .., length dword, 4 reserved bytes', which stay
 unfoldable pub entry : List ℕ → ℕ → ℕ → Laying
 entry x offset len s = dword 16 len (dword 12 offset (name x s))
+
+-- a directory of two entries after a header of 20 bytes: a manifest of version 9.4.2.0 at byte 68 under the name given,
+-- and an image at byte 112 as `huc_fw`; what the entries say of their lengths, and h, are given
+unfoldable pub hucDirectory : List ℕ → ℕ → ℕ → ℕ → Laying
+hucDirectory x manifestLength imageLength h s =
+    from 112 (header (record { h = h; s = 40; k = 1; m = 1; e = 1 }))
+    (dword 108 2 (dword 104 0x40009
+    (from 44 (entry hucName 112 imageLength) (from 20 (entry x 68 manifestLength) (directory 2 20 s)))))

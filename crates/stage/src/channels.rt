@@ -8,7 +8,7 @@ ghost use Rattle.channel.specs.Opening.{opening};
 ghost use Rattle.channel.specs.Outcome.{sent, stepped, received};
 ghost use Rattle.channel.specs.Operations.{sendLook, sendMove, sendPublish, sendWhole};
 ghost use Rattle.channel.specs.Operations.{receiveLook, receiveMove, receivePublish, receiveWhole};
-ghost use Rattle.stage.specs.Channels.{partsOf, unopenedParts, openedBy, sentBy, receivedBy, SenderDid, ReceiverDid};
+ghost use Rattle.stage.specs.Channels.{contentsOf, unopenedContents, openedBy, sentBy, receivedBy, SenderDid, ReceiverDid};
 ghost use Rattle.stage.specs.Channels.{withDesc, withBuf, withSender};
 use channel::Received;
 use channel::Receiver;
@@ -33,7 +33,7 @@ pub struct Done {
 
 // A ring of zeros under a descriptor that has other words, which nobody has opened.
 pub fn unopened() -> Ctb
-    ensures { λ r. ⌜ partsOf r ≡ unopenedParts ⌝ }
+    ensures { λ r. ⌜ contentsOf r ≡ unopenedContents ⌝ }
 {
     Ctb {
         desc: [9u32; 16],
@@ -203,7 +203,7 @@ pub fn receive_publish(c: Ctb, out: &mut [u32; 256]) -> Done
 
 // Somebody else writes a word of the descriptor.
 pub fn with_word(c: Ctb, word: usize, value: u32) -> Ctb
-    ensures { λ r. ⌜ partsOf r ≡ withDesc (set (c .desc) word value) (partsOf c) ⌝ }
+    ensures { λ r. ⌜ contentsOf r ≡ withDesc (set (c .desc) word value) (contentsOf c) ⌝ }
 {
     let mut desc = c.desc;
     ring::put(&mut desc, word, value);
@@ -214,7 +214,7 @@ pub fn with_word(c: Ctb, word: usize, value: u32) -> Ctb
 
 // Somebody else writes a dword of the ring.
 pub fn with_dword(c: Ctb, place: usize, value: u32) -> Ctb
-    ensures { λ r. ⌜ partsOf r ≡ withBuf (set (c .buf) place value) (partsOf c) ⌝ }
+    ensures { λ r. ⌜ contentsOf r ≡ withBuf (set (c .buf) place value) (contentsOf c) ⌝ }
 {
     let mut buf = c.buf;
     ring::put(&mut buf, place, value);
@@ -225,7 +225,7 @@ pub fn with_dword(c: Ctb, place: usize, value: u32) -> Ctb
 
 // Another sender takes over, with this own tail.
 pub fn with_sender_at(c: Ctb, own: usize) -> Ctb
-    ensures { λ r. ⌜ partsOf r ≡ withSender (idleAt 1024 own) (partsOf c) ⌝ }
+    ensures { λ r. ⌜ contentsOf r ≡ withSender (idleAt 1024 own) (contentsOf c) ⌝ }
 {
     let sender = Sender::idle_at(1024, own);
     let mut next = c;

@@ -1,4 +1,4 @@
-// Dwords filled, compared and shown in part.
+// Dwords filled, compared, and shown from one end.
 ghost use mathlib.Core.Path.{_≡_};
 ghost use mathlib.Core.Bool.{true};
 ghost use lib.ListN.{length, take, drop};

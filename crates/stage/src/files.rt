@@ -8,10 +8,10 @@ ghost use Rattle.stage.specs.Files;
 use firmware::Sizes;
 
 // Room for any file of a scene; a line takes as many of its first bytes as it speaks of.
-pub type Blob = [u8; 4700];
+pub type Room = [u8; 4700];
 
 // Room with nothing laid in it.
-pub fn blank() -> Blob
+pub fn blank() -> Room
     ensures { λ r. ⌜ r ≡ replicate 4700 0 ⌝ }
 {
     [0u8; 4700]
@@ -25,7 +25,7 @@ fn shortened(s: &[u8], len: usize) -> &[u8]
 }
 
 // The first len bytes of a blob.
-pub fn cut(blob: &Blob, len: usize) -> &[u8]
+pub fn cut(blob: &Room, len: usize) -> &[u8]
     ensures { λ r. ⌜ FrontOf (blob .entry) (take len (now (blob .entry))) r ⌝ }
 {
     shortened(blob, len)
@@ -74,21 +74,21 @@ pub fn put_dword(s: &mut [u8], at: usize, v: u32)
 }
 
 // Byte j of a name, zero padded.
-fn padded(name: &[u8], j: usize) -> u8
+fn name_byte(name: &[u8], j: usize) -> u8
     ensures { λ r. ⌜ r ≡ getD (now (name .entry)) j 0 ⌝ }
 {
     if j < name.len() { name[j] } else { 0 }
 }
 
 // Stores four bytes of a name, from byte j of it on, at byte j.
-fn put_padded(s: &mut [u8], name: &[u8], j: usize)
+fn put_name_bytes(s: &mut [u8], name: &[u8], j: usize)
     requires { ⌜ j ≤ 8 ⌝ }
-    ensures { λ _. ⌜ now (s .exit) ≡ Files.padded (now (name .entry)) j (now (s .entry)) ⌝ }
+    ensures { λ _. ⌜ now (s .exit) ≡ Files.nameBytes (now (name .entry)) j (now (s .entry)) ⌝ }
 {
-    let a = padded(name, j);
-    let b = padded(name, j + 1);
-    let c = padded(name, j + 2);
-    let d = padded(name, j + 3);
+    let a = name_byte(name, j);
+    let b = name_byte(name, j + 1);
+    let c = name_byte(name, j + 2);
+    let d = name_byte(name, j + 3);
     put_four(s, j, a, b, c, d);
 }
 
@@ -96,9 +96,9 @@ fn put_padded(s: &mut [u8], name: &[u8], j: usize)
 fn put_name(s: &mut [u8], name: &[u8])
     ensures { λ _. ⌜ now (s .exit) ≡ Files.name (now (name .entry)) (now (s .entry)) ⌝ }
 {
-    put_padded(s, name, 0);
-    put_padded(s, name, 4);
-    put_padded(s, name, 8);
+    put_name_bytes(s, name, 0);
+    put_name_bytes(s, name, 4);
+    put_name_bytes(s, name, 8);
 }
 
 // The header of an image that starts at byte `at`, with those sizes and version 70.5.1.
@@ -154,4 +154,27 @@ pub fn put_entry(s: &mut [u8], at: usize, name: &[u8], offset: u32, len: u32)
     if at <= s.len() {
         put_entry_front(&mut s[at..], name, offset, len);
     }
+}
+
+// A directory of two entries after a header of 20 bytes: a manifest of version 9.4.2.0 at byte 68, under that name, and
+// as huc_fw an image at byte 112 with that h, s 40 and 1 dword each of RSA, modulus and exponent, so that it ends at byte
+// 272. What the entries say of the lengths is given.
+pub fn huc_directory(first: &[u8], manifest_len: u32, image_len: u32, h: usize) -> Room
+    ensures { λ r. ⌜ r ≡ Files.hucDirectory (now (first .entry)) «manifest_len» «image_len» h (replicate 4700 0) ⌝ }
+{
+    let mut room = blank();
+    put_directory(&mut room, 2, 20);
+    put_entry(&mut room, 20, first, 68, manifest_len);
+    put_entry(&mut room, 44, b"huc_fw", 112, image_len);
+    put_dword(&mut room, 104, 0x0004_0009);
+    put_dword(&mut room, 108, 0x0000_0002);
+    let z = Sizes {
+        h,
+        s: 40,
+        k: 1,
+        m: 1,
+        e: 1,
+    };
+    put_image(&mut room, 112, z);
+    room
 }

@@ -82,7 +82,7 @@ fn packed(fence: u32, num_dwords: u32, body: Body) -> [u32; MESSAGE_MAX]
 }
 
 // The message at the front: as many dwords as its header says.
-pub fn whole(dwords: &[u32; MESSAGE_MAX]) -> &[u32]
+pub fn message_in(dwords: &[u32; MESSAGE_MAX]) -> &[u32]
     ensures { λ r. ⌜ FrontOf (dwords .entry) (messageIn (now (dwords .entry))) r ⌝ }
 {
     let len = message::total_length(dwords[0]);

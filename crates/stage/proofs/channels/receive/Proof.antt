@@ -1,4 +1,4 @@
--- `channels::receive` meets its contract: it is the receiver's own call, on the parts of the channel. Assumes nothing.
+-- `channels::receive` meets its contract: it is the receiver's own call, on the channel's contents. Assumes nothing.
 use mathlib.Core.Path.{_∙_}
 use borrow.Author.Needs.{needs}
 use Rattle.stage.proofs.channels.receive.Statement.{statement}

@@ -1,4 +1,4 @@
--- `channels::receive_copy` meets its contract: it is the receiver's own step, on the parts of the channel. Assumes
+-- `channels::receive_copy` meets its contract: it is the receiver's own step, on the channel's contents. Assumes
 -- nothing.
 use mathlib.Core.Path.{_∙_}
 use borrow.Author.Needs.{needs}

@@ -1,12 +1,12 @@
--- `files::put_image` meets its contract: it is laid in the part that starts at `at`, where there is one. Assumes
+-- `files::put_image` meets its contract: it is laid in the bytes from `at` on, where there are any. Assumes
 -- nothing.
-use Rattle.stage.proofs.Laws.{from-part, from-none}
+use Rattle.stage.proofs.Laws.{from-there, from-none}
 use borrow.Author.Needs.{needs}
 use Rattle.stage.proofs.files.put_image.Statement.{statement}
 use Rattle.stage.proofs.files.put_image.Tie as tie
 
 returns : tie.Need-returns
-returns c = from-part _ _ _ _ (c .before .before .before .before .if1 .taken) (c .before .before .put-header .ensures)
+returns c = from-there _ _ _ _ (c .before .before .before .before .if1 .taken) (c .before .before .put-header .ensures)
 
 returns-2 : tie.Need-returns-2
 returns-2 c = from-none _ _ _ (c .if1 .left)

@@ -1,7 +1,7 @@
 -- `files::put_name` meets its contract: twelve bytes, four at a time. Assumes nothing.
 use mathlib.Core.Path.{ap, _∙_}
 use denote.Ref.{now}
-use Rattle.stage.specs.Files.{padded, name}
+use Rattle.stage.specs.Files.{nameBytes, name}
 use borrow.Author.Needs.{needs}
 use Rattle.stage.proofs.files.put_name.Statement.{statement}
 use Rattle.stage.proofs.files.put_name.Tie as tie
@@ -13,7 +13,7 @@ returns c =
     let second = third .before .before .before .before in
     let first = second .before .before .before .before in
     let x = now (first .before .before .before .before .args .name) in
-    third .put-padded3 .ensures ∙ ap (padded x 8) (second .put-padded2 .ensures ∙ ap (padded x 4) (first .put-padded .ensures))
+    third .put-name-bytes3 .ensures ∙ ap (nameBytes x 8) (second .put-name-bytes2 .ensures ∙ ap (nameBytes x 4) (first .put-name-bytes .ensures))
 
 pub put-name-spec : {M : Type 1} → statement M
 put-name-spec =

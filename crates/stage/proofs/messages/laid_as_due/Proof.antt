@@ -1,4 +1,4 @@
--- `messages::laid_as_due` meets its contract: the two parts are compared. Assumes nothing.
+-- `messages::laid_as_due` meets its contract: the two slices are compared. Assumes nothing.
 use mathlib.Core.Path.{sym, _∙_}
 use borrow.Author.Needs.{needs}
 use Rattle.stage.proofs.messages.laid_as_due.Statement.{statement}

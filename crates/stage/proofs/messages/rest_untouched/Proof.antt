@@ -1,4 +1,4 @@
--- `messages::rest_untouched` meets its contract: the two parts are compared. Assumes nothing.
+-- `messages::rest_untouched` meets its contract: the two slices are compared. Assumes nothing.
 use mathlib.Core.Path.{sym, ap, _∙_}
 use lib.ListN.{drop}
 use borrow.Author.Needs.{needs}
