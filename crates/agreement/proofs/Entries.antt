@@ -7,7 +7,7 @@ use native.Mathlib.Omega.{arith}
 use lib.ListN.{length, getD}
 use lib.Dec.{eqb, leb, ltb}
 use borrow.Author.Tests.{eqb-true, le-leb, leb-true, leb-false, lt-leb, le-ltb, lt-ltb, ltb-true, ltb-false, not-false}
-use Rattle.firmware.specs.Bytes.{nowhere, placed, span}
+use Rattle.firmware.specs.Bytes.{nowhere, locatedAt, span}
 use Rattle.firmware.specs.Cpd
 use Rattle.firmware.specs.declared.bytes.Located.{Located}
 use Rattle.firmware.proofs.Tests.{both, both-pass, cases, unmet}
@@ -69,12 +69,12 @@ entry-passes b i x =
     )
 
 -- where its part lies
-pub entry-at : (b : List ℕ) (i : ℕ) → Cpd.entryNumber b i ≡ 0 → Cpd.entryPlace b i ≡ Cpd.entryPart b (Cpd.entryStart b i)
-unfolding Cpd.entryPlace
+pub entry-at : (b : List ℕ) (i : ℕ) → Cpd.entryNumber b i ≡ 0 → Cpd.entrySpan b i ≡ Cpd.entryPart b (Cpd.entryStart b i)
+unfolding Cpd.entrySpan
 entry-at b i e = rw e
 
 pub part-at :
-    (b : List ℕ) (i : ℕ) (l : Located) → l ≡ placed 0 false (Cpd.entryPart b (Cpd.entryStart b i))
+    (b : List ℕ) (i : ℕ) (l : Located) → l ≡ locatedAt 0 false (Cpd.entryPart b (Cpd.entryStart b i))
     → At (offsetAt b (entryAt b i)) (sizeAt b (entryAt b i)) l
 part-at b i l e = rw e (record { accepted = refl; starts = refl; size = omega arith })
 

@@ -8,7 +8,7 @@ use native.Mathlib.Omega.{arith}
 use lib.ListN.{length}
 use borrow.Author.Tests.{eq-eqb, eqb-true, ne-eqb, leb-false, le-leb, le-ltb, lt-leb, lt-ltb, not-true}
 use denote.Ref.{RefT, now}
-use Rattle.firmware.specs.Bytes.{PartOf, Span, nowhere, placed}
+use Rattle.firmware.specs.Bytes.{PartOf, Span, nowhere, locatedAt}
 use Rattle.firmware.specs.Css
 use Rattle.firmware.specs.Version.{cssReading, reading}
 use Rattle.firmware.specs.declared.bytes.Located.{Located}
@@ -20,13 +20,13 @@ use Rattle.firmware.proofs.Tests.{both}
 use Rattle.agreement.specs.Images.{At, EmptyAtStart, ImageParts, Images, IsImage, VeryBytes, e, endOf, h, k, m, s}
 
 -- a location that is nowhere
-pub empty-at-start : (number : ℕ) (t : Bool) (l : Located) → l ≡ placed number t nowhere → EmptyAtStart number l
+pub empty-at-start : (number : ℕ) (t : Bool) (l : Located) → l ≡ locatedAt number t nowhere → EmptyAtStart number l
 empty-at-start number t l q = rw q (record { code = refl; at-start = refl; empty = refl })
 
 -- what is handed back for a span is the located bytes, where they lie
 pub very-bytes :
     (number : ℕ) (t : Bool) (p : Span) (blob part : RefT (List ℕ)) → PartOf blob p part
-    → VeryBytes blob (placed number t p) part
+    → VeryBytes blob (locatedAt number t p) part
 very-bytes number t p blob part x = record { bytes = x .same-bytes; block = x .same-block; start = x .same-start }
 
 -- an image that is accepted
@@ -38,22 +38,22 @@ module _ (b : List ℕ) (z : Css.number b ≡ 0) where
   facts = css-accepted b z
 
   -- a component where it lies, and one that is shown where the blob has all of the image
-  abbrev AtItsPlace : Component → Type 0
-  AtItsPlace which = Css.located which b ≡ placed 0 (Css.truncated b) (Css.spanOf which (Css.sizes b))
+  abbrev WhereItLies : Component → Type 0
+  WhereItLies which = Css.located which b ≡ locatedAt 0 (Css.truncated b) (Css.spanOf which (Css.sizes b))
 
   abbrev InBack : Component → Type 0
   InBack which = Css.shown which b ≡ (Css.isImage b && Css.allThere b)
 
   -- a component that is shown, and one that is not
-  located-shown : (which : Component) → Css.shown which b ≡ true → AtItsPlace which
+  located-shown : (which : Component) → Css.shown which b ≡ true → WhereItLies which
   unfolding Css.part
   located-shown which t = rw (z, t)
 
-  located-unshown : (which : Component) → Css.shown which b ≡ false → Css.located which b ≡ placed 0 (Css.truncated b) nowhere
+  located-unshown : (which : Component) → Css.shown which b ≡ false → Css.located which b ≡ locatedAt 0 (Css.truncated b) nowhere
   unfolding Css.part
   located-unshown which t = rw (z, t)
 
-  front : (which : Component) → Css.shown which b ≡ Css.isImage b → AtItsPlace which
+  front : (which : Component) → Css.shown which b ≡ Css.isImage b → WhereItLies which
   front which q = located-shown which (q ∙ is-accepted)
 
   shown-back : (which : Component) → InBack which → 4 * s b ≤ length b → Css.shown which b ≡ true
@@ -65,23 +65,23 @@ module _ (b : List ℕ) (z : Css.number b ≡ 0) where
   unshown-back which q l = q ∙ rw (is-accepted, lt-leb (4 * s b) (length b) l)
 
   at :
-      (start len : ℕ) (t : Bool) (p : Span) (l : Located) → l ≡ placed 0 t p → p .from ≡ start → p .to - p .from ≡ len
+      (start len : ℕ) (t : Bool) (p : Span) (l : Located) → l ≡ locatedAt 0 t p → p .from ≡ start → p .to - p .from ≡ len
       → At start len l
   at start len t p l q f g = rw q (record { accepted = refl; starts = f; size = g })
 
-  ucode-shown : AtItsPlace Ucode
+  ucode-shown : WhereItLies Ucode
   unfolding Css.shown
   ucode-shown = front Ucode refl
 
-  rsa-shown : AtItsPlace Rsa
+  rsa-shown : WhereItLies Rsa
   unfolding Css.shown
   rsa-shown = front Rsa refl
 
-  modulus-shown : 4 * s b ≤ length b → AtItsPlace Modulus
+  modulus-shown : 4 * s b ≤ length b → WhereItLies Modulus
   unfolding Css.shown
   modulus-shown l = located-shown Modulus (shown-back Modulus refl l)
 
-  exponent-shown : 4 * s b ≤ length b → AtItsPlace Exponent
+  exponent-shown : 4 * s b ≤ length b → WhereItLies Exponent
   unfolding Css.shown
   exponent-shown l = located-shown Exponent (shown-back Exponent refl l)
 
@@ -113,7 +113,7 @@ module _ (b : List ℕ) (z : Css.number b ≡ 0) where
   unfolding Css.spanOf Css.sizes
   at-4s l = ap endOf (exponent-shown l) ∙ last
     where
-      last : endOf (placed 0 (Css.truncated b) (Css.spanOf Exponent (Css.sizes b))) ≡ 4 * s b
+      last : endOf (locatedAt 0 (Css.truncated b) (Css.spanOf Exponent (Css.sizes b))) ≡ 4 * s b
       last = omega (arith, ends-at-4s b z)
 
   is-image : IsImage b

@@ -8,7 +8,7 @@ use native.Mathlib.Omega.{arith}
 use lib.ListN.{length, getD}
 use lib.Dec.{eqb, leb, ltb}
 use borrow.Author.Tests.{eq-eqb, eqb-true, eqb-false, ne-eqb, le-leb, leb-true, le-ltb, lt-ltb, ltb-true, ltb-false}
-use Rattle.firmware.specs.Bytes.{placed}
+use Rattle.firmware.specs.Bytes.{locatedAt}
 use Rattle.firmware.specs.Css
 use Rattle.firmware.specs.Cpd
 use Rattle.firmware.proofs.Count.{count-some, count-two, count-zero, two-count, zero-count}
@@ -204,7 +204,7 @@ module _ (b name : List ℕ) where
   pub found-passes : Found b name → Cpd.number b name ≡ 0
   found-passes x = only-answer (x .i) (x .alone) ∙ rw (le-ltb (length b) (partEnd b (x .i)) (x .part-there))
 
-  pub found-located : (x : Found b name) → Cpd.located b name ≡ placed 0 false (Cpd.entryPart b (Cpd.entryStart b (x .i)))
+  pub found-located : (x : Found b name) → Cpd.located b name ≡ locatedAt 0 false (Cpd.entryPart b (Cpd.entryStart b (x .i)))
   unfolding Cpd.part
   found-located x = simp (found-passes x, first-is (x .i) (x .alone))
 

@@ -17,6 +17,7 @@ pub use sending::Sender;
 pub use sending::Sent;
 pub use state::Counts;
 pub use state::fits_idle;
+pub use state::no_copy;
 pub use state::publish_number;
 pub use state::receiving_number;
 pub use state::sending_number;

@@ -93,7 +93,7 @@ fn all_zero(s: &[u32]) -> bool
 }
 
 // A copy of all zeros, which an idle state has.
-pub(crate) fn no_copy() -> [u32; MESSAGE_MAX]
+pub fn no_copy() -> [u32; MESSAGE_MAX]
     ensures { λ r. ⌜ r ≡ zeros ⌝ }
 {
     [0; MESSAGE_MAX]

@@ -20,7 +20,7 @@ pub(crate) fn open() -> Ctb {
 }
 
 // What a call of the sender answered, and the channel as the call left it.
-pub(crate) fn after_send(done: Done) -> Ctb {
+pub(crate) fn sender_after(done: Done) -> Ctb {
     let c = done.ctb;
     verdict(done.code);
     sender(c.sender);
@@ -29,7 +29,7 @@ pub(crate) fn after_send(done: Done) -> Ctb {
 }
 
 // What a call of the receiver answered, and the channel as the call left it.
-pub(crate) fn after_receive(done: Done) -> Ctb {
+pub(crate) fn receiver_after(done: Done) -> Ctb {
     let c = done.ctb;
     verdict(done.code);
     receiver(c.receiver);
@@ -37,25 +37,20 @@ pub(crate) fn after_receive(done: Done) -> Ctb {
     c
 }
 
-// The name of a whole send.
-fn sends(header: u32, len: usize) {
-    say::by_fence(b"Send message %, length %", header, len);
-}
-
 // A whole send of any dwords, with a note on them.
 pub(crate) fn send_noted(c: Ctb, note: &[u8], msg: &[u32]) -> Ctb {
-    sends(dword_at(msg, 0), msg.len());
+    say::by_fence(b"Send message %, length %", dword_at(msg, 0), msg.len());
     text(note);
-    after_send(stage::send(c, msg))
+    sender_after(stage::send(c, msg))
 }
 
 // A whole send of a request.
 pub(crate) fn send(c: Ctb, fence: u32, num_dwords: u32) -> Ctb {
-    let m = stage::request(fence, num_dwords);
-    let header = m[0];
-    let msg = stage::message_in(&m);
-    sends(header, msg.len());
-    after_send(stage::send(c, msg))
+    send_noted(
+        c,
+        b"",
+        stage::message_in(&stage::request(fence, num_dwords)),
+    )
 }
 
 // A send's look, with a request.
@@ -64,7 +59,7 @@ pub(crate) fn send_look(c: Ctb, fence: u32, num_dwords: u32) -> Ctb {
     let header = m[0];
     let msg = stage::message_in(&m);
     say::by_fence(b"Sender looks with message %, length %", header, msg.len());
-    after_send(stage::send_look(c, msg))
+    sender_after(stage::send_look(c, msg))
 }
 
 // A send's store, with the place that its dword goes to.
@@ -81,13 +76,13 @@ pub(crate) fn send_store(c: Ctb) -> Ctb {
     } else {
         text(b"Sender stores");
     }
-    after_send(done)
+    sender_after(done)
 }
 
 // A send's publish.
 pub(crate) fn send_publish(c: Ctb) -> Ctb {
     text(b"Sender publishes");
-    after_send(stage::send_publish(c))
+    sender_after(stage::send_publish(c))
 }
 
 // A whole receive, where a request is due.
@@ -101,19 +96,19 @@ pub(crate) fn receive_due(c: Ctb, due: &[u32; 256]) -> Ctb {
     let done = stage::receive(c, &mut out);
     text(b"Receive");
     say::laid(stage::as_due(done.len, &out, due), done.len, out[0]);
-    after_receive(done)
+    receiver_after(done)
 }
 
 // A receive's look.
 pub(crate) fn receive_look(c: Ctb) -> Ctb {
     text(b"Receiver looks");
-    after_receive(stage::receive_look(c))
+    receiver_after(stage::receive_look(c))
 }
 
 // A receive's copy.
 pub(crate) fn receive_copy(c: Ctb) -> Ctb {
     text(b"Receiver copies");
-    after_receive(stage::receive_copy(c))
+    receiver_after(stage::receive_copy(c))
 }
 
 // A receive's publish, where a request is due.
@@ -123,5 +118,5 @@ pub(crate) fn receive_publish(c: Ctb, fence: u32, num_dwords: u32) -> Ctb {
     let done = stage::receive_publish(c, &mut out);
     text(b"Receiver publishes");
     say::laid(stage::as_due(done.len, &out, &due), done.len, out[0]);
-    after_receive(done)
+    receiver_after(done)
 }

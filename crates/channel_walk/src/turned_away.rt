@@ -2,13 +2,10 @@
 use crate::calls;
 use channel::Receiver;
 use channel::Sender;
-use say::end;
 use say::one;
 use say::text;
 use say::two;
-use say::verdict;
 use stage::Ctb;
-use stage::Done;
 
 // Opening and whole calls, each with one thing wrong.
 pub(crate) fn turned_away() {
@@ -29,8 +26,7 @@ fn open_over(desc: &mut [u32], buf: &[u32]) {
         desc.len() as u64,
         buf.len() as u64,
     );
-    verdict(opened.code);
-    end();
+    say::answered(opened.code);
 }
 
 // A whole send over a ring that may be, but for which the state was not made.
@@ -41,8 +37,7 @@ fn send_over_2048(c: Ctb) {
     let mut ring = [0u32; 2048];
     let sent = s.send(&mut desc, &mut ring, stage::message_in(&m));
     one(b"Send with ring length %", ring.len() as u64);
-    verdict(sent.code);
-    end();
+    say::answered(sent.code);
 }
 
 // A whole receive to an output that is a dword short.
@@ -53,8 +48,7 @@ fn receive_to_255(c: Ctb) {
     let mut out = [0u32; 255];
     let got = r.receive(&mut desc, &buf, &mut out);
     one(b"Receive with output length %", out.len() as u64);
-    verdict(got.code);
-    end();
+    say::answered(got.code);
 }
 
 // Sends of dwords that are no message.
@@ -79,16 +73,8 @@ pub(crate) fn store_over_15(c: Ctb) -> Ctb {
         b"Sender stores with descriptor length %",
         short.len() as u64,
     );
-    let sender = sent.next;
-    let mut next = c;
-    next.buf = buf;
-    next.sender = sender;
-    calls::after_send(answered(sent.code, next))
-}
-
-// A call's answer with no length.
-fn answered(code: u32, ctb: Ctb) -> Done {
-    Done { code, len: 0, ctb }
+    let desc = c.desc;
+    calls::sender_after(stage::after_send(c, sent, desc, buf))
 }
 
 // A receive's copy over a ring of a length that none may have.
@@ -98,10 +84,7 @@ pub(crate) fn copy_over_1000(c: Ctb) -> Ctb {
     let desc = c.desc;
     let stepped = r.copy(&desc, &ring);
     one(b"Receiver copies with ring length %", ring.len() as u64);
-    let receiver = stepped.next;
-    let mut next = c;
-    next.receiver = receiver;
-    calls::after_receive(answered(stepped.code, next))
+    calls::receiver_after(stage::after_receive(c, stage::no_length(stepped), desc))
 }
 
 // A receive's publish to an output that is a dword short.
@@ -112,9 +95,5 @@ pub(crate) fn publish_to_255(c: Ctb) -> Ctb {
     let buf = c.buf;
     let got = r.publish(&mut desc, &buf, &mut out);
     one(b"Receiver publishes with output length %", out.len() as u64);
-    let receiver = got.next;
-    let mut next = c;
-    next.desc = desc;
-    next.receiver = receiver;
-    calls::after_receive(answered(got.code, next))
+    calls::receiver_after(stage::after_receive(c, got, desc))
 }

@@ -17,8 +17,7 @@ pub(crate) fn picture(c: Ctb) -> Ctb {
 
 // The end of a call's line, and the channel as the call left it.
 fn after(done: Done) -> Ctb {
-    say::verdict(done.code);
-    say::end();
+    say::answered(done.code);
     done.ctb
 }
 

@@ -6,16 +6,13 @@ use stage::cut;
 
 // A file that is an image with h as given, s 40, k 1, m 1, e 1.
 fn image(h: usize) -> Room {
-    let mut room = stage::blank();
-    let z = Sizes {
+    stage::image(Sizes {
         h,
         s: 40,
         k: 1,
         m: 1,
         e: 1,
-    };
-    stage::put_image(&mut room, 0, z);
-    room
+    })
 }
 
 // A file by its length: what it is answered, and where its parts lie.

@@ -7,7 +7,7 @@ use native.Mathlib.Omega.{arith}
 use lib.ListN.{length}
 use lib.Dec.{eqb}
 use borrow.Author.Tests.{eq-eqb, ne-eqb}
-use Rattle.firmware.specs.Bytes.{Span, span, nowhere, bytes, placed}
+use Rattle.firmware.specs.Bytes.{Span, span, nowhere, bytes, locatedAt}
 use Rattle.firmware.specs.Css
 use Rattle.firmware.specs.Cpd
 use Rattle.firmware.specs.Inside.{hucName, partNamed, hucBlob, hucNumber, hucTruncated, hucSpan, hucLocated, within}
@@ -20,7 +20,7 @@ use Rattle.firmware.proofs.Lies.{cpd-lies, located-span, shown-beyond}
 -- a span in the image, told by the code from where it starts, is the one that is shown
 chosen :
     (at n : ℕ) (t s : Bool) (p : Span) → (s ≡ true → 128 ≤ p .from)
-    → outer at (placed n t (cond s p nowhere)) ≡ placed n t (cond s (within at p) nowhere)
+    → outer at (locatedAt n t (cond s p nowhere)) ≡ locatedAt n t (cond s (within at p) nowhere)
 unfolding outer
 chosen at n t true p h =
     let l : 128 ≤ p .from = h refl in
@@ -32,7 +32,7 @@ chosen at n t false p h = refl
 outer-located :
     (at : ℕ) (which : Component) (i : List ℕ)
     → outer at (Css.located which i)
-    ≡ placed (Css.number i) (Css.truncated i) (cond (Css.shown which i) (within at (Css.spanOf which (Css.sizes i))) nowhere)
+    ≡ locatedAt (Css.number i) (Css.truncated i) (cond (Css.shown which i) (within at (Css.spanOf which (Css.sizes i))) nowhere)
 unfolding Css.part
 outer-located at which i =
     chosen at (Css.number i) (Css.truncated i) (Css.shown which i) (Css.spanOf which (Css.sizes i))

@@ -7,7 +7,7 @@ use native.Mathlib.Omega.{arith}
 use lib.ListN.{length}
 use lib.Dec.{eqb, leb, ltb}
 use borrow.Author.Tests.{eq-eqb, ne-eqb, lt-ltb, le-ltb, le-leb, leb-true, leb-false}
-use Rattle.firmware.specs.Bytes.{Span, span, nowhere, placed}
+use Rattle.firmware.specs.Bytes.{Span, span, nowhere, locatedAt}
 use Rattle.firmware.specs.Css
 use Rattle.firmware.specs.Private.{rank}
 use Rattle.firmware.specs.declared.bytes.Located.{Located}
@@ -16,12 +16,12 @@ use Rattle.firmware.specs.declared.css.Component.{Component}
 use Rattle.firmware.specs.declared.css.Component.the-variants.{Ucode, Rsa, Modulus, Exponent}
 use Rattle.firmware.proofs.Nowhere.{image-nowhere}
 
-refused : (b : List ℕ) (which : Component) (k : ℕ) → Css.number b ≡ suc k → Css.located which b ≡ placed (suc k) false nowhere
+refused : (b : List ℕ) (which : Component) (k : ℕ) → Css.number b ≡ suc k → Css.located which b ≡ locatedAt (suc k) false nowhere
 refused b which k e =
     let a : Css.isImage b ≡ false = ne-eqb (Css.number b) 0 (λ z. absurd (omega arith)) in
     image-nowhere b which a ∙ rw e
 
-pub no-header : (b : List ℕ) (which : Component) → length b < 128 → Css.located which b ≡ placed 15 false nowhere
+pub no-header : (b : List ℕ) (which : Component) → length b < 128 → Css.located which b ≡ locatedAt 15 false nowhere
 unfolding Css.number
 no-header b which l = refused b which 14 (simp (lt-ltb (length b) 128 l))
 
@@ -52,16 +52,16 @@ exponent z = modulus z + 4 * z .m
 
 -- what the code hands out for a component that needs so many bytes
 abbrev handed : ℕ → Sizes → ℕ → Span → Located
-handed n z needed p = placed 0 (ltb n (4 * z .s)) (cond (leb needed n) p nowhere)
+handed n z needed p = locatedAt 0 (ltb n (4 * z .s)) (cond (leb needed n) p nowhere)
 
 -- a blob of n bytes whose header says the sizes z
 module _ (b : List ℕ) (n : ℕ) (z : Sizes) (l : length b ≡ n) (s : Css.sizes b ≡ z) (h : 128 ≤ n) where
-  pub sizes-disagree : (which : Component) → Css.agree z ≡ false → Css.located which b ≡ placed 16 false nowhere
+  pub sizes-disagree : (which : Component) → Css.agree z ≡ false → Css.located which b ≡ locatedAt 16 false nowhere
   unfolding Css.number
   sizes-disagree which a = refused b which 15 (simp (l, s, le-ltb n 128 h, a))
 
   module _ (a : Css.agree z ≡ true) where
-    pub too-short : (which : Component) → n < modulus z → Css.located which b ≡ placed 17 false nowhere
+    pub too-short : (which : Component) → n < modulus z → Css.located which b ≡ locatedAt 17 false nowhere
     unfolding Css.number
     too-short which g = refused b which 16 (simp (l, s, le-ltb n 128 h, a, lt-ltb n (modulus z) g))
 

@@ -7,7 +7,7 @@ use native.Mathlib.Omega.{arith}
 use lib.ListN.{length, length-take, length-drop}
 use lib.Dec.{eqb, leb, ltb}
 use borrow.Author.Tests.{ltb-true, ltb-false, leb-true, eqb-true, not-false}
-use Rattle.firmware.specs.Bytes.{Span, span, bytes, placed}
+use Rattle.firmware.specs.Bytes.{Span, span, bytes, locatedAt}
 use Rattle.firmware.specs.Css
 use Rattle.firmware.specs.Cpd
 use Rattle.firmware.specs.Inside.{hucName, hucBlob, hucSpan}
@@ -24,14 +24,14 @@ pub record Lies (n : ℕ) (p : Span) : Type 0 where
   pub begins : p .from ≤ p .to
   pub ends : p .to ≤ n
 
-pub located-code : (k : ℕ) (t : Bool) (p : Span) {l : Located} → l ≡ placed k t p → k ≡ l .code
+pub located-code : (k : ℕ) (t : Bool) (p : Span) {l : Located} → l ≡ locatedAt k t p → k ≡ l .code
 located-code k t p e = rw e
 
-pub located-truncated : (k : ℕ) (t : Bool) (p : Span) {l : Located} → l ≡ placed k t p → t ≡ l .truncated
+pub located-truncated : (k : ℕ) (t : Bool) (p : Span) {l : Located} → l ≡ locatedAt k t p → t ≡ l .truncated
 located-truncated k t p e = rw e
 
 -- a location of a part that lies within n bytes
-module _ (n : ℕ) (p : Span) (h : Lies n p) (k : ℕ) (t : Bool) {l : Located} (e : l ≡ placed k t p) where
+module _ (n : ℕ) (p : Span) (h : Lies n p) (k : ℕ) (t : Bool) {l : Located} (e : l ≡ locatedAt k t p) where
   pub located-ends : l .start + l .len ≤ n
   located-ends = rw e (omega arith)
 

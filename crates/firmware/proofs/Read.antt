@@ -7,7 +7,7 @@ use native.Mathlib.Omega.{arith}
 use lib.ListN.{length}
 use lib.Dec.{eqb, leb, ltb}
 use borrow.Author.Tests.{eq-eqb, ne-eqb, lt-ltb, ltb-false, ltb-true, le-ltb, le-leb, lt-leb}
-use Rattle.firmware.specs.Bytes.{span, nowhere, placed}
+use Rattle.firmware.specs.Bytes.{span, nowhere, locatedAt}
 use Rattle.firmware.specs.Cpd
 use Rattle.firmware.specs.Private.{Keyed, entryJudged, partJudged, tableOf, walked}
 use Rattle.firmware.specs.declared.cpd.Table.{Table}
@@ -33,20 +33,20 @@ module _ (b : List ℕ) {t : Table} (e : t ≡ tableOf b) where
 -- an entry of a directory that is refused
 entry-refused :
     (b : List ℕ) (i : ℕ) (shared : Bool) → eqb (Cpd.directoryNumber b) 0 ≡ false
-    → entryJudged b i shared ≡ placed (Cpd.directoryNumber b) false nowhere
+    → entryJudged b i shared ≡ locatedAt (Cpd.directoryNumber b) false nowhere
 unfolding entryJudged
 entry-refused b i shared e = simp e
 
 -- and a name in it
 name-refused :
     (b name : List ℕ) → Cpd.isName name ≡ true → eqb (Cpd.directoryNumber b) 0 ≡ false
-    → Cpd.located b name ≡ placed (Cpd.directoryNumber b) false nowhere
+    → Cpd.located b name ≡ locatedAt (Cpd.directoryNumber b) false nowhere
 unfolding Cpd.number Cpd.part
 name-refused b name n e = simp (n, e)
 
 pub entry-own :
     (b : List ℕ) {t : Table} (e : t ≡ tableOf b) (i : ℕ) (shared : Bool) → (t .code ≡ 0 → ⊥)
-    → entryJudged b i shared ≡ placed (t .code) false nowhere
+    → entryJudged b i shared ≡ locatedAt (t .code) false nowhere
 entry-own b e i shared z =
     let d = table-code b e in
     entry-refused b i shared (ne-eqb (Cpd.directoryNumber b) 0 (λ q. z (sym d ∙ q))) ∙ rw d
@@ -56,7 +56,7 @@ module _ (b : List ℕ) {t : Table} (e : t ≡ tableOf b) (z : t .code ≡ 0) (i
   own : eqb (Cpd.directoryNumber b) 0 ≡ true
   own = eq-eqb (Cpd.directoryNumber b) 0 (table-code b e ∙ z)
 
-  pub entry-none : t .count ≤ i → entryJudged b i shared ≡ placed 20 false nowhere
+  pub entry-none : t .count ≤ i → entryJudged b i shared ≡ locatedAt 20 false nowhere
   unfolding entryJudged
   entry-none l = simp (own, table-count b e z, le-leb (t .count) i l)
 

@@ -39,8 +39,8 @@ pub record PartOf (b : RefT (List ℕ)) (p : Span) (r : RefT (List ℕ)) : Type 
   pub same-start : ptr r .1 ≡ p .from + ptr b .1
 
 -- a part by its first byte and length, beside the number that its judgement gives and whether that says truncated
-abbrev pub placed : ℕ → Bool → Span → Located
-placed n truncated p = record { code = n; truncated = truncated; start = p .from; len = p .to - p .from }
+abbrev pub locatedAt : ℕ → Bool → Span → Located
+locatedAt n truncated p = record { code = n; truncated = truncated; start = p .from; len = p .to - p .from }
 
 -- a number, or where it is 0 the one that is judged after it
 abbrev pub then : ℕ → ℕ → ℕ

@@ -5,7 +5,7 @@ use mathlib.Core.Bool.{Bool, true, false, not, _&&_, cond}
 use mathlib.Core.List.{List}
 use lib.ListN.{length, getD}
 use lib.Dec.{eqb, leb, ltb}
-use Rattle.firmware.specs.Bytes.{Span, dwordAt, span, nowhere, placed, then}
+use Rattle.firmware.specs.Bytes.{Span, dwordAt, span, nowhere, locatedAt, then}
 use Rattle.firmware.specs.declared.bytes.Located.{Located}
 use Rattle.firmware.specs.declared.cpd.Directory.{Directory}
 
@@ -99,18 +99,18 @@ part b name = cond (eqb (number b name) 0) (entryPart b (entryStart b (firstEntr
 
 -- the whole judgement of a name sought
 abbrev pub located : List ℕ → List ℕ → Located
-located b name = placed (number b name) false (part b name)
+located b name = locatedAt (number b name) false (part b name)
 
 -- ours, for a list of all entries: entry i by its index: 15, 18 and 19, then 20 where there is no such entry, then 21.
 -- No name is sought, so there is no 22
 unfoldable pub entryNumber : List ℕ → ℕ → ℕ
 entryNumber b i = then (directoryNumber b) (cond (leb (count b) i) 20 (partNumber b i))
 
-unfoldable pub entryPlace : List ℕ → ℕ → Span
-entryPlace b i = cond (eqb (entryNumber b i) 0) (entryPart b (entryStart b i)) nowhere
+unfoldable pub entrySpan : List ℕ → ℕ → Span
+entrySpan b i = cond (eqb (entryNumber b i) 0) (entryPart b (entryStart b i)) nowhere
 
 abbrev pub entryLocated : List ℕ → ℕ → Located
-entryLocated b i = placed (entryNumber b i) false (entryPlace b i)
+entryLocated b i = locatedAt (entryNumber b i) false (entrySpan b i)
 
 -- ours: what a directory has, whatever is sought: its number and, where that is 0, how many entries
 unfoldable pub entriesOf : List ℕ → Directory

@@ -4,7 +4,7 @@ use mathlib.Core.Bool.{Bool, not, _&&_, cond}
 use mathlib.Core.List.{List}
 use lib.ListN.{length}
 use lib.Dec.{eqb, leb, ltb}
-use Rattle.firmware.specs.Bytes.{Span, dwordAt, span, nowhere, placed}
+use Rattle.firmware.specs.Bytes.{Span, dwordAt, span, nowhere, locatedAt}
 use Rattle.firmware.specs.declared.bytes.Located.{Located}
 use Rattle.firmware.specs.declared.css.Sizes.{Sizes}
 use Rattle.firmware.specs.declared.css.ImageAnswer.{ImageAnswer}
@@ -68,7 +68,7 @@ part which b = cond (shown which b) (spanOf which (sizes b)) nowhere
 
 -- the whole judgement of an image of which that component is asked
 abbrev pub located : Component → List ℕ → Located
-located which b = placed (number b) (truncated b) (part which b)
+located which b = locatedAt (number b) (truncated b) (part which b)
 
 -- the answer alone
 abbrev pub answer : List ℕ → ImageAnswer

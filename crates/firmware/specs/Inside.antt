@@ -6,7 +6,7 @@ use mathlib.Core.Bool.{Bool, _&&_, cond}
 use mathlib.Core.List.{List, [], _∷_}
 use lib.ListN.{length}
 use lib.Dec.{eqb, ltb}
-use Rattle.firmware.specs.Bytes.{Span, span, nowhere, bytes, placed, then}
+use Rattle.firmware.specs.Bytes.{Span, span, nowhere, bytes, locatedAt, then}
 use Rattle.firmware.specs.Css
 use Rattle.firmware.specs.Cpd
 use Rattle.firmware.specs.declared.bytes.Located.{Located}
@@ -55,4 +55,4 @@ hucSpan which b =
 
 -- the whole judgement of the image of which that component is asked
 abbrev pub hucLocated : Component → List ℕ → Located
-hucLocated which b = placed (hucNumber b) (hucTruncated b) (hucSpan which b)
+hucLocated which b = locatedAt (hucNumber b) (hucTruncated b) (hucSpan which b)

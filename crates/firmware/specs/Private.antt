@@ -6,7 +6,7 @@ use mathlib.Core.Bool.{Bool, false, cond}
 use mathlib.Core.List.{List}
 use lib.ListN.{length, getD}
 use lib.Dec.{eqb, leb, ltb}
-use Rattle.firmware.specs.Bytes.{Span, dwordAt, nowhere, placed, then}
+use Rattle.firmware.specs.Bytes.{Span, dwordAt, nowhere, locatedAt, then}
 use Rattle.firmware.specs.Css
 use Rattle.firmware.specs.Cpd
 use Rattle.firmware.specs.Figures.{directoryFigures}
@@ -61,13 +61,13 @@ tableOf b = record {
 unfoldable pub partJudged : ℕ → Span → Bool → Located
 partJudged n p shared =
     let k : ℕ = cond shared 22 (cond (ltb n (p .to)) 21 0) in
-    placed k false (cond (eqb k 0) p nowhere)
+    locatedAt k false (cond (eqb k 0) p nowhere)
 
 -- entry i, said to share its name or not
 unfoldable pub entryJudged : List ℕ → ℕ → Bool → Located
 entryJudged b i shared =
     let k : ℕ = then (Cpd.directoryNumber b) (cond (leb (Cpd.count b) i) 20 (cond shared 22 (Cpd.partNumber b i))) in
-    placed k false (cond (eqb k 0) (Cpd.entryPart b (Cpd.entryStart b i)) nowhere)
+    locatedAt k false (cond (eqb k 0) (Cpd.entryPart b (Cpd.entryStart b i)) nowhere)
 
 -- of count entries from byte start, the first from entry `from` on that has the name, or where there is none the one
 -- behind them (from, where that is behind them already)

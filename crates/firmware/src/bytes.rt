@@ -2,8 +2,8 @@
 ghost use mathlib.Core.Path.{_≡_};
 ghost use mathlib.Core.Bool.{false};
 ghost use Prim.Native.Nat.{_+_, _≤_, _<_, _^_};
-ghost use lib.ListN.{length};
-ghost use Rattle.firmware.specs.Bytes.{wordAt, dwordAt, span, nowhere, placed, PartOf};
+ghost use lib.ListN.{getD, length};
+ghost use Rattle.firmware.specs.Bytes.{wordAt, dwordAt, span, nowhere, locatedAt, PartOf};
 
 // Where a part lies in the lent blob, all of it from one judgement: 0 with the part's first byte and its length, or the
 // number that refuses it with the empty part at the blob's start. An image that is accepted without its modulus and
@@ -16,7 +16,7 @@ pub struct Located {
 }
 
 pub(crate) fn refused(code: u32) -> Located
-    ensures { λ r. ⌜ r ≡ placed code false nowhere ⌝ }
+    ensures { λ r. ⌜ r ≡ locatedAt code false nowhere ⌝ }
 {
     Located {
         code,
@@ -26,7 +26,14 @@ pub(crate) fn refused(code: u32) -> Located
     }
 }
 
-pub(crate) fn wide(b: u8) -> usize
+// Byte i, or 0 where there is none: a name so read is zero padded.
+pub fn byte_at(s: &[u8], i: usize) -> u8
+    ensures { λ r. ⌜ r ≡ getD (now (s .entry)) i 0 ⌝ }
+{
+    if i < s.len() { s[i] } else { 0 }
+}
+
+pub fn wide(b: u8) -> usize
     ensures { λ r. ⌜ (r ≡ b) × (r < 256) ⌝ }
 {
     b as usize

@@ -4,7 +4,7 @@ ghost use mathlib.Core.Bool.{cond};
 ghost use Prim.Native.Nat.{_+_, _*_, _≤_, _<_, _^_};
 ghost use lib.ListN.{length};
 ghost use lib.Dec.{leb};
-ghost use Rattle.firmware.specs.Bytes.{PartOf, span, nowhere, placed};
+ghost use Rattle.firmware.specs.Bytes.{PartOf, span, nowhere, locatedAt};
 ghost use Rattle.firmware.specs.declared.css.Component.the-variants.{Ucode, Rsa, Modulus, Exponent};
 ghost use Rattle.firmware.specs.Css;
 ghost use Rattle.firmware.specs.Private.{Small, LocatedBy, rank};
@@ -94,7 +94,7 @@ pub(crate) fn agree(z: Sizes) -> bool
 // there.
 fn component_located(n: usize, needed: usize, truncated: bool, from: usize, to: usize) -> Located
     requires { ⌜ from ≤ to ⌝ }
-    ensures { λ r. ⌜ r ≡ placed 0 truncated (cond (leb needed n) (span from to) nowhere) ⌝ }
+    ensures { λ r. ⌜ r ≡ locatedAt 0 truncated (cond (leb needed n) (span from to) nowhere) ⌝ }
 {
     if n < needed {
         return Located {

@@ -12,6 +12,8 @@ pub mod refusal;
 mod version;
 
 pub use bytes::Located;
+pub use bytes::byte_at;
+pub use bytes::wide;
 pub use cpd::Directory;
 pub use cpd::cpd_answer;
 pub use cpd::cpd_directory;

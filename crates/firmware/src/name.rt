@@ -1,8 +1,9 @@
 // A name to seek: copied once, zero padded, and judged on the copy. The lent name is not read again.
 ghost use mathlib.Core.Path.{_≡_};
 ghost use Prim.Native.Nat.{_+_, _≤_};
-ghost use lib.ListN.{getD, length};
+ghost use lib.ListN.{length};
 ghost use Rattle.firmware.specs.Private.{Keyed, NameBy, frontAt};
+use crate::bytes::byte_at;
 use crate::bytes::dword_at;
 
 // 'name 12 bytes (zero padded)'
@@ -11,20 +12,13 @@ pub(crate) const NAME_BYTES: usize = 12;
 // As many of them, the front, are compared as one number.
 pub(crate) const FRONT_BYTES: usize = 8;
 
-// Byte j of a name, zero padded.
-fn padded(name: &[u8], j: usize) -> u8
-    ensures { λ r. ⌜ r ≡ getD (now (name .entry)) j 0 ⌝ }
-{
-    if j < name.len() { name[j] } else { 0 }
-}
-
 // The first twelve bytes of a name, zero padded.
 pub(crate) fn key_of(name: &[u8]) -> [u8; NAME_BYTES]
     ensures { λ r. ⌜ Keyed (now (name .entry)) r ⌝ }
 {
     let mut key = [0u8; NAME_BYTES];
     for j in 0..NAME_BYTES {
-        key[j] = padded(name, j);
+        key[j] = byte_at(name, j);
     }
     key
 }

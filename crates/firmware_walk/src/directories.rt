@@ -1,6 +1,5 @@
 // Code partition directories: their own numbers, and where the part of a name lies.
-use crate::wording::found;
-use crate::wording::verdict;
+use crate::wording::sought;
 use say::four;
 use say::one;
 use say::text;
@@ -34,7 +33,7 @@ fn listed(blob: &[u8]) {
     listed_name(blob, 0);
     listed_name(blob, 1);
     listed_name(blob, 2);
-    verdict(d.code);
+    say::answered(d.code);
 }
 
 // A name of twelve bytes, or none.
@@ -56,18 +55,18 @@ pub(crate) fn entries() {
     listed_to(&room, 20);
     listed_to(&room, 67);
     listed_to(&room, 68);
-    with_header_length(room, 19);
-    with_header_length(room, 21);
+    with_byte(b"Header length %: ", room, 10, 19);
+    with_byte(b"Header length %: ", room, 10, 21);
     with_count(0, 20);
     with_count(0xffff_ffff, 100);
-    with_other_marker(room);
+    with_byte(b"Marker $CPd: ", room, 3, b'd');
 }
 
-// The same with another header length.
-fn with_header_length(room: Room, len: u8) {
+// The same with another byte, named in a template for its value.
+fn with_byte(template: &[u8], room: Room, at: usize, value: u8) {
     let mut other = room;
-    stage::put_byte(&mut other, 10, len);
-    one(b"Header length %: ", len as u64);
+    stage::put_byte(&mut other, at, value);
+    one(template, value as u64);
     listed_to(&other, 68);
 }
 
@@ -79,17 +78,9 @@ fn with_count(count: u32, len: usize) {
     listed_to(&room, len);
 }
 
-// A marker whose last byte is in lower case.
-fn with_other_marker(room: Room) {
-    let mut other = room;
-    stage::put_byte(&mut other, 3, b'd');
-    text(b"Marker $CPd: ");
-    listed_to(&other, 68);
-}
-
 // Seeks huc_fw.
-pub(crate) fn found_huc(room: &Room, len: usize) {
-    found(firmware::cpd_located(cut(room, len), b"huc_fw"));
+pub(crate) fn sought_huc(room: &Room, len: usize) {
+    sought(firmware::cpd_located(cut(room, len), b"huc_fw"));
 }
 
 // Parts that end where the blob ends, or a byte later.
@@ -117,12 +108,12 @@ fn part_at(offset: u32, len: u32, bytes: usize) {
         bytes as u64,
         0,
     );
-    found_huc(&room, bytes);
+    sought_huc(&room, bytes);
 }
 
 // A part of 8 bytes with that offset as it is stored.
 fn part_with_bits(offset: u32) {
     let room = with_huc(offset, 8);
     one(b"Offset &, length 8, in 100 bytes", offset as u64);
-    found_huc(&room, 100);
+    sought_huc(&room, 100);
 }

@@ -8,13 +8,6 @@ use say::text;
 use stage::Room;
 use stage::cut;
 
-// An image at a room's start.
-fn room_of(z: Sizes) -> Room {
-    let mut room = stage::blank();
-    stage::put_image(&mut room, 0, z);
-    room
-}
-
 fn sizes(h: usize, s: usize, k: usize, m: usize, e: usize) -> Sizes {
     Sizes { h, s, k, m, e }
 }
@@ -54,7 +47,7 @@ pub(crate) fn by_length() {
     text(b"\nAn image with ");
     described(z);
     text(b"\nuCode and RSA end at 4384, all ends at 4644; bytes past it belong to no part\n");
-    let room = room_of(z);
+    let room = stage::image(z);
     judged_to(&room, 127);
     refused_as_well(cut(&room, 127));
     judged_to(&room, 128);
@@ -71,7 +64,7 @@ pub(crate) fn smallest() {
     text(b"\nThe smallest image, with ");
     described(z);
     end();
-    let room = room_of(z);
+    let room = stage::image(z);
     judged_to(&room, 135);
     judged_to(&room, 136);
 }
@@ -80,7 +73,7 @@ pub(crate) fn smallest() {
 fn wrong(note: &[u8], z: Sizes) {
     text(note);
     described(z);
-    let room = room_of(z);
+    let room = stage::image(z);
     say::image(cut(&room, 4644));
 }
 

@@ -1,6 +1,5 @@
 // Parts inside a directory: manifests, and images judged as blobs of their own.
 use crate::names::put_huc;
-use crate::wording::verdict;
 use firmware::ManifestVersion;
 use say::text;
 use say::two;
@@ -39,7 +38,7 @@ fn manifest_of(len: u32, bytes: usize) {
 fn manifest(room: &Room, bytes: usize) {
     let v = firmware::manifest_version(cut(room, bytes));
     match v {
-        ManifestVersion::Refused(code) => verdict(code),
+        ManifestVersion::Refused(code) => say::answered(code),
         _ => {
             text(b": accepted; firmware version ");
             say::manifest_version(v);
@@ -73,7 +72,7 @@ fn image_of(len: u32, h: usize) {
 }
 
 // Images that are accepted.
-pub(crate) fn whole_images() {
+pub(crate) fn accepted_images() {
     text(b"\nImages in a directory of 300 bytes: huc_fw at 112, with s 40, k 1, m 1, e 1\n");
     image_of(160, 35);
     image_of(161, 35);

@@ -17,7 +17,7 @@ fn main() {
     names::alike_or_twice();
     names::refused();
     inside::manifests();
-    inside::whole_images();
+    inside::accepted_images();
     inside::refused_images();
 }
 

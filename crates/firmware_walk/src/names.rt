@@ -1,9 +1,9 @@
 // Names in a directory: whole names agree and prefixes do not, a name that two entries have is refused, and names that
 // may not be sought.
-use crate::directories::found_huc;
+use crate::directories::sought_huc;
 use crate::directories::two_entries;
 use crate::directories::with_huc;
-use crate::wording::found;
+use crate::wording::sought;
 use say::four;
 use say::one;
 use say::text;
@@ -19,7 +19,7 @@ fn seek_in(room: &Room, len: usize, name: &[u8]) {
 fn seek(blob: &[u8], name: &[u8]) {
     text(b"seek ");
     say::quoted(name);
-    found(firmware::cpd_located(blob, name));
+    sought(firmware::cpd_located(blob, name));
 }
 
 // Names that are there, and that are not.
@@ -58,7 +58,7 @@ fn longer_first() {
     let mut room = with_huc(80, 4);
     stage::put_entry(&mut room, 20, b"huc_fwx", 70, 5);
     text(b"\"huc_fwx\" at 70 to 75 and \"huc_fw\" at 80 to 84");
-    found_huc(&room, 100);
+    sought_huc(&room, 100);
 }
 
 // Two entries of the name, the second at 80 to 84: refused also where they are alike, and before a part that lies
@@ -74,7 +74,7 @@ fn twice(offset: u32, len: u32) {
         0,
         0,
     );
-    found_huc(&room, 100);
+    sought_huc(&room, 100);
 }
 
 // An entry behind those that the directory counts is none.
@@ -83,7 +83,7 @@ fn not_counted() {
     put_huc(&mut room, 20, 80, 4);
     stage::put_directory(&mut room, 1, 20);
     text(b"The same with entry count 1");
-    found_huc(&room, 100);
+    sought_huc(&room, 100);
 }
 
 // Entry 0 and entry 2 have one name, entry 1 another, which is still found.
@@ -93,7 +93,7 @@ fn first_and_last() {
     put_huc(&mut room, 20, 92, 2);
     put_huc(&mut room, 68, 97, 3);
     text(b"\"huc_fw\" at 92 to 94, \"other\" at 94 to 97, \"huc_fw\" at 97 to 100");
-    found_huc(&room, 100);
+    sought_huc(&room, 100);
     seek(cut(&room, 100), b"other");
 }
 

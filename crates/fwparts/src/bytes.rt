@@ -22,8 +22,3 @@ pub(crate) fn starts(a: &[u8], b: &[u8]) -> bool {
     }
     true
 }
-
-// Byte i, or 0 where there is none.
-pub(crate) fn byte(s: &[u8], i: usize) -> u8 {
-    if i < s.len() { s[i] } else { 0 }
-}

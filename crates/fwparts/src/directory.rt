@@ -173,7 +173,7 @@ fn entry(blob: &[u8], i: usize) {
     if l.code == 0 {
         say::text(b": ");
         say::part(l);
-        say::text(b"\n");
+        say::end();
     } else {
         refusal(firmware::cpd_entry_figures(blob, i));
     }
@@ -183,7 +183,7 @@ fn entry(blob: &[u8], i: usize) {
 fn refusal(f: firmware::Figures) {
     say::text(b": ");
     say::number(f.code);
-    say::text(b"\n");
+    say::end();
     verdicts::shortage(f);
 }
 
@@ -212,7 +212,7 @@ fn manifest(blob: &[u8]) {
     if f.code == 0 {
         say::text(b": version ");
         say::manifest_version(firmware::manifest_version(blob));
-        say::text(b"\n");
+        say::end();
     } else {
         refusal(f);
         sharing::shared(f.code, blob, b"HUCP.man");

@@ -1,7 +1,5 @@
 // Files that are no firmware file that is judged here, named for what they are. The library judges first: what it
 // accepts is never taken for one of these.
-ghost use Prim.Native.Nat.{_<_};
-use crate::bytes::byte;
 use crate::bytes::starts;
 use crate::verdicts;
 
@@ -48,7 +46,7 @@ pub(crate) fn named(kind: usize) -> u32 {
           a HuC directory without huc_fw: only for boxes that do not load in two steps, ask the office\n",
         kind,
     );
-    say::text(b"\n");
+    say::end();
     verdicts::NOT_JUDGED
 }
 
@@ -109,18 +107,14 @@ fn is_letter(b: u8) -> bool {
     ((0x20 <= b) & (b < 0x7f)) | (b == 9) | (b == 10) | (b == 13)
 }
 
-fn wide(b: u8) -> usize
-    ensures { λ r. ⌜ r < 256 ⌝ }
-{
-    b as usize
-}
-
 // A GSC image has the offset of Boot1 as the dword at byte 32, and there a partition table that starts AA 55 00 00
 // (document 02, T-05). The file is not that long where the dword's highest byte is not 0.
 fn is_gsc(blob: &[u8]) -> bool {
-    let at = wide(byte(blob, 32)) + 0x100 * wide(byte(blob, 33)) + 0x1_0000 * wide(byte(blob, 34));
+    let at = firmware::wide(firmware::byte_at(blob, 32))
+        + 0x100 * firmware::wide(firmware::byte_at(blob, 33))
+        + 0x1_0000 * firmware::wide(firmware::byte_at(blob, 34));
     if blob.len() < at {
         return false;
     }
-    (byte(blob, 35) == 0) & starts(&blob[at..], b"\xaa\x55\0\0")
+    (firmware::byte_at(blob, 35) == 0) & starts(&blob[at..], b"\xaa\x55\0\0")
 }

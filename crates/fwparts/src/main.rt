@@ -35,11 +35,11 @@ fn report(blob: &[u8], which: usize, o: Options) -> u32 {
 // The verdict on the bytes of a file, and then a part of those bytes, where one is asked for and the file is good.
 fn judge(blob: &[u8], which: usize, o: Options) -> u32 {
     let class = report(blob, which, o);
-    if o.part == 0 {
+    if o.part_at == 0 {
         return class;
     }
     if class == verdicts::GOOD {
-        return output::part(blob, o.part, o.out);
+        return output::part(blob, o.part_at, o.out_at);
     }
     say::text(b"  nothing written: only of a file that is good\n");
     class

@@ -1,5 +1,4 @@
 // The options in front of the files.
-use crate::bytes::byte;
 use crate::bytes::equal;
 
 // A version that is expected: how many of its numbers are given, none where no version is, and the numbers.
@@ -8,16 +7,16 @@ pub(crate) struct Expected {
     pub numbers: [u64; 4],
 }
 
-// What is asked. `at` is the argument behind the options, and `ended` whether `--` stands before it; `part` and `out`
-// are the arguments with the part's name and the new file's, 0 where none is asked.
+// What is asked. `at` is the argument behind the options, and `ended` whether `--` stands before it; `part_at`
+// and `out_at` are the arguments with the part's name and the new file's, 0 where none is asked.
 pub(crate) struct Options {
     pub at: usize,
     pub ended: bool,
     pub figures: bool,
     pub several: bool,
     pub expect: Expected,
-    pub part: usize,
-    pub out: usize,
+    pub part_at: usize,
+    pub out_at: usize,
     pub wrong: bool,
 }
 
@@ -107,7 +106,7 @@ fn option_of(word: &[u8]) -> u32 {
         OUT
     } else if equal(word, b"--") {
         END
-    } else if byte(word, 0) == b'-' {
+    } else if firmware::byte_at(word, 0) == b'-' {
         UNKNOWN
     } else {
         NONE
@@ -139,12 +138,12 @@ fn with_option(o: Options, option: u32) -> Options {
             next.expect = expect;
         }
         PART => {
-            next.wrong = o.part != 0;
-            next.part = value;
+            next.wrong = o.part_at != 0;
+            next.part_at = value;
         }
         OUT => {
-            next.wrong = o.out != 0;
-            next.out = value;
+            next.wrong = o.out_at != 0;
+            next.out_at = value;
         }
         END => {
             next.ended = true;
@@ -193,8 +192,8 @@ fn nothing_asked() -> Options {
             given: 0,
             numbers: [0, 0, 0, 0],
         },
-        part: 0,
-        out: 0,
+        part_at: 0,
+        out_at: 0,
         wrong: false,
     }
 }
@@ -206,8 +205,8 @@ pub(crate) fn read() -> Options {
     let count = os::arg_count();
     let mut o = all_options(nothing_asked());
     let files = if o.at < count { count - o.at } else { 0 };
-    let half = (o.part == 0) != (o.out == 0);
-    let many = (o.part != 0) & (files != 1);
+    let half = (o.part_at == 0) != (o.out_at == 0);
+    let many = (o.part_at != 0) & (files != 1);
     let mixed = if o.ended {
         false
     } else {

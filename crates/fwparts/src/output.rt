@@ -34,8 +34,7 @@ fn part_named(blob: &[u8], name: &[u8], out: usize) -> u32 {
 // An entry's name that is refused.
 fn refused(code: u32, name: &[u8]) -> u32 {
     say::text(b"  not written: ");
-    say::quoted(name);
-    say::text(b": ");
+    reading::name(name);
     say::number(code);
     say::end();
     verdicts::NOT_WRITTEN

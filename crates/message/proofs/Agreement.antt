@@ -220,7 +220,7 @@ agreement =
       only-4-unknown = λ w. (type-4-unknown w, others-known w);
       fast-request = fast-request;
       well-formed = λ h w. (λ e. rule-from h w (well-formed h w e), λ f. well-formed-i h w (rule-to h w f));
-      whole =
+      is-message =
           λ d. (
             λ e. (message-length d e, rule-from (getD d 0 0) (getD d 1 0) (message-well d e)),
             λ f. message-i d (f .0) (rule-to (getD d 0 0) (getD d 1 0) (f .1)),

@@ -33,7 +33,7 @@ pub record Agreement : Type 0 where
       (w : ℕ) → fieldOf type w ≡ 2 → bodyOf w ≡ some (FastRequest (fieldOf requestData w) (fieldOf requestAction w))
   -- 'Refusals 4 and 13 follow the mended rule': the two tests that they ask, as 3 does of a send's copy
   pub well-formed : (h w : ℕ) → (wellFormed h w ≡ true) ↔ MendedRule h w
-  pub whole :
+  pub is-message :
       (d : List ℕ)
       → (isMessage d ≡ true) ↔ ((length d ≡ totalLength (getD d 0 0)) × MendedRule (getD d 0 0) (getD d 1 0))
   -- 'Unpacking takes a whole message and refuses a malformed one'

@@ -12,45 +12,45 @@ use crate::Origin;
 use crate::Packed;
 use crate::header;
 
-// The fields of a body at their places, or that one is too wide.
-enum Placed {
+// The fields of a body at their bits, or that one is too wide.
+enum BodyBits {
     TooWide,
     Bits(u32),
 }
 
 // A type with one field in bits 27:0.
-fn one_field(t: u32, all: u32) -> Placed
+fn one_field(t: u32, all: u32) -> BodyBits
     requires { ⌜ t < 8 ⌝ }
-    ensures { λ r. ⌜ r ≡ cond (ltb all 0x1000_0000) (Placed.Bits (t * 0x1000_0000 + all)) Placed.TooWide ⌝ }
+    ensures { λ r. ⌜ r ≡ cond (ltb all 0x1000_0000) (BodyBits.Bits (t * 0x1000_0000 + all)) BodyBits.TooWide ⌝ }
 {
     if all < 0x1000_0000 {
-        Placed::Bits(t * 0x1000_0000 + all)
+        BodyBits::Bits(t * 0x1000_0000 + all)
     } else {
-        Placed::TooWide
+        BodyBits::TooWide
     }
 }
 
 // A type with a field in bits 27:16 and one in bits 15:0.
-fn two_fields(t: u32, upper: u32, lower: u32) -> Placed
+fn two_fields(t: u32, upper: u32, lower: u32) -> BodyBits
     requires { ⌜ t < 8 ⌝ }
     ensures { λ r.
         ⌜ r ≡ cond (ltb upper 0x1000 && ltb lower 0x1_0000)
-        (Placed.Bits (t * 0x1000_0000 + upper * 0x1_0000 + lower)) Placed.TooWide ⌝ }
+        (BodyBits.Bits (t * 0x1000_0000 + upper * 0x1_0000 + lower)) BodyBits.TooWide ⌝ }
 {
     if upper < 0x1000 {
         if lower < 0x1_0000 {
-            Placed::Bits(t * 0x1000_0000 + upper * 0x1_0000 + lower)
+            BodyBits::Bits(t * 0x1000_0000 + upper * 0x1_0000 + lower)
         } else {
-            Placed::TooWide
+            BodyBits::TooWide
         }
     } else {
-        Placed::TooWide
+        BodyBits::TooWide
     }
 }
 
 // The type and the fields of a body.
-fn body_bits(b: Body) -> Placed
-    ensures { λ r. ⌜ r ≡ cond (fit (bodyFields b)) (Placed.Bits (dword (bodyFields b))) Placed.TooWide ⌝ }
+fn body_bits(b: Body) -> BodyBits
+    ensures { λ r. ⌜ r ≡ cond (fit (bodyFields b)) (BodyBits.Bits (dword (bodyFields b))) BodyBits.TooWide ⌝ }
 {
     match b {
         Body::Request { data, action } => two_fields(header::TYPE_REQUEST, data, action),
@@ -81,7 +81,7 @@ pub fn pack(m: Message) -> Packed
     let n = m.num_dwords;
     let o = m.origin;
     let b = m.body;
-    let Placed::Bits(bits) = body_bits(b) else {
+    let BodyBits::Bits(bits) = body_bits(b) else {
         return Packed::Unfit;
     };
     if (1 <= n) & (n < 0x100) & (fence < 0x1_0000) {

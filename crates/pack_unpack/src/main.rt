@@ -10,18 +10,15 @@ use say::one;
 use say::text;
 use say::two;
 
-// The number that refuses to unpack, as the C header names it; the one that refuses to pack is firmware's too.
-const BAD_MESSAGE: u32 = 4;
-
 fn main() {
-    whole_messages();
+    well_formed_messages();
     malformed_messages();
     packed_messages();
     unfit_messages();
 }
 
-fn whole_messages() {
-    text(b"Whole messages, by their first two dwords and their length\n");
+fn well_formed_messages() {
+    text(b"Well-formed messages, by their first two dwords and their length\n");
     pair(0x1234_0001, 0x00ab_4567);
     unpacked(&[0x0007_0004, 0x9001_1000, 1, 2, 3]);
     pair(0x1234_0001, 0x20ab_4601);
@@ -103,24 +100,23 @@ fn failure(hint: u32, error: u32) -> Body {
     Body::Failure { hint, error }
 }
 
-// Packs a message of the host.
-fn host(fence: u32, num_dwords: u32, body: Body) {
+// Packs a message of these fields.
+fn packs(origin: Origin, fence: u32, num_dwords: u32, body: Body) {
     packed(Message {
-        origin: Origin::Host,
+        origin,
         fence,
         num_dwords,
         body,
     });
 }
 
-// Packs a message of the GuC.
+// One of the host, and one of the GuC.
+fn host(fence: u32, num_dwords: u32, body: Body) {
+    packs(Origin::Host, fence, num_dwords, body);
+}
+
 fn guc(fence: u32, num_dwords: u32, body: Body) {
-    packed(Message {
-        origin: Origin::Guc,
-        fence,
-        num_dwords,
-        body,
-    });
+    packs(Origin::Guc, fence, num_dwords, body);
 }
 
 // A message of two dwords.
@@ -132,7 +128,7 @@ fn pair(header: u32, word: u32) {
 fn unpacked(dwords: &[u32]) {
     begun(dword_at(dwords, 0), dword_at(dwords, 1), dwords.len());
     match message::unpack(dwords) {
-        Unpacked::Malformed => refused(BAD_MESSAGE),
+        Unpacked::Malformed => say::answered(ring::refusal::BAD_MESSAGE),
         Unpacked::Decoded(m) => {
             text(b"\n    ");
             packed(m);
@@ -155,14 +151,9 @@ fn begun(first: u32, second: u32, len: usize) {
 fn packed(m: Message) {
     described(m);
     match message::pack(m) {
-        Packed::Unfit => refused(firmware::refusal::BAD_FIELD),
+        Packed::Unfit => say::answered(firmware::refusal::BAD_FIELD),
         Packed::Dwords(header, word) => { two(b"\n    packs to & &\n", header as u64, word as u64) }
     }
-}
-
-fn refused(code: u32) {
-    say::verdict(code);
-    say::end();
 }
 
 // Who sent a message, what it carries, its fence and its NUM_DWORDS.

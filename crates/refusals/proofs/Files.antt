@@ -14,7 +14,7 @@ use Rattle.message.specs.Fields.{dword, fit}
 use Rattle.message.specs.Header.{isMessage}
 use Rattle.message.specs.Packing.{headerFields, hxgFields, pack, packAnswer, refusing, unpack, unpackAnswer}
 use Rattle.message.specs.declared.Message.{Message}
-use Rattle.firmware.specs.Bytes.{nowhere, placed, then}
+use Rattle.firmware.specs.Bytes.{nowhere, locatedAt, then}
 use Rattle.firmware.specs.Css
 use Rattle.firmware.specs.Cpd
 use Rattle.firmware.specs.Inside.{hucBlob, hucName, hucNumber, manifestName, manifestNumber, partNamed}
@@ -226,7 +226,7 @@ huc-number b = seek-then b hucName _ (imageRows (hucBlob b)) (image-number (hucB
 
 -- ---- what a refusal gives
 
-pub location-refused : (number : ℕ) (l : Located) → l ≡ placed number false nowhere → LocationRefused l
+pub location-refused : (number : ℕ) (l : Located) → l ≡ locatedAt number false nowhere → LocationRefused l
 location-refused number l e = rw e (record { at-start = refl; empty = refl; not-truncated = refl })
 
 pub reading-refused :

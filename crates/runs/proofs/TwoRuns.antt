@@ -245,7 +245,7 @@ pub laid-run : (dst xs : List ℕ) → length xs ≤ length dst → withRun dst 
 unfolding withRun
 laid-run dst xs h = rw (laid-there xs dst h, zero-add)
 
--- what `lay_rest` lays: two dwords by value, and behind them those that are read from two places further on
+-- what `lay_read` lays: two dwords by value, and behind them those that are read from two places further on
 pub laid-behind :
     (out b : List ℕ) (h s len own r : ℕ) (w : List ℕ) → 2 ≤ len → len ≤ length out → len ≤ length b → own < length b
     → r ≡ (own + 2) % length b

@@ -186,8 +186,9 @@ pub fn load_dwords(dst: &mut [u32], buf: &[u32], at: usize)
     load_runs(dst, buf, at);
 }
 
-// The dwords behind the first two of a message that starts at place `own`, read to their places in the output.
-fn lay_rest(out: &mut [u32], header: u32, second: u32, len: usize, buf: &[u32], own: usize)
+// A message that starts at place `own`: its first two dwords as they were read before, and those behind them, read
+// to where they belong in the output.
+fn lay_read(out: &mut [u32], header: u32, second: u32, len: usize, buf: &[u32], own: usize)
     requires { ⌜ (2 ≤ len) × (len ≤ length (now out)) × (len ≤ length (now buf)) × (own < length (now buf))
         × (length (now buf) ≤ 16384) ⌝ }
     ensures { λ _.
@@ -220,7 +221,7 @@ pub fn lay_message(
     let head = past(own, len, n);
     let there = (own < n) & (2 <= len) & (len <= n) & (n <= N_MAX);
     if there & (len <= out.len()) {
-        lay_rest(out, header, second, len, buf, own);
+        lay_read(out, header, second, len, buf, own);
     }
     head
 }

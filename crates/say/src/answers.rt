@@ -30,6 +30,12 @@ pub fn verdict(code: u32) {
     number(code);
 }
 
+// The same as all that is left of a line.
+pub fn answered(code: u32) {
+    verdict(code);
+    end();
+}
+
 // A message by its fence and its length, in a template for both.
 pub fn by_fence(t: &[u8], header: u32, len: usize) {
     two(t, (header / 0x1_0000) as u64, len as u64);

@@ -8,6 +8,7 @@ mod parts;
 mod picture;
 mod print;
 
+pub use answers::answered;
 pub use answers::by_fence;
 pub use answers::descriptor;
 pub use answers::end;

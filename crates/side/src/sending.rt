@@ -60,7 +60,7 @@ pub fn send_store(w: &mut [u32; STATE_WORDS], desc: &[u32], buf: &mut [u32]) -> 
     if code != 0 {
         return code;
     }
-    let dword = words::copy_dword(&w[..], header, word, moved);
+    let dword = words::dword_of_copy(&w[..], header, word, moved);
     ring::put(buf, past(s.own, moved, n), dword);
     w[words::MOVED] = (moved + 1) as u32;
     0

@@ -97,7 +97,7 @@ pub(crate) fn load(w: &mut [u32], header: u32, word: u32, rest: &[u32])
 }
 
 // Dword k of the copy, of which the first two were judged: those are given by value.
-pub(crate) fn copy_dword(w: &[u32], header: u32, word: u32, k: usize) -> u32
+pub(crate) fn dword_of_copy(w: &[u32], header: u32, word: u32, k: usize) -> u32
     requires { ⌜ (header ≡ getD (now w) 4 0) × (word ≡ getD (now w) 5 0) × (k ≤ 256) ⌝ }
     ensures { λ r. ⌜ r ≡ getD (stateOf (now (w .entry)) .copy) k 0 ⌝ }
 {

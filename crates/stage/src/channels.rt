@@ -65,7 +65,7 @@ pub fn open(c: Ctb) -> Done
 }
 
 // As a call of the sender left it.
-fn after_send(c: Ctb, answer: Sent, desc: [u32; 16], buf: [u32; 1024]) -> Done
+pub fn after_send(c: Ctb, answer: Sent, desc: [u32; 16], buf: [u32; 1024]) -> Done
     ensures { λ r. ⌜ (sentBy r ≡ sent answer desc buf) × (r .ctb .receiver ≡ c .receiver) ⌝ }
 {
     let sender = answer.next;
@@ -83,7 +83,7 @@ fn after_send(c: Ctb, answer: Sent, desc: [u32; 16], buf: [u32; 1024]) -> Done
 }
 
 // As a call of the receiver left it.
-fn after_receive(c: Ctb, got: Received, desc: [u32; 16]) -> Done
+pub fn after_receive(c: Ctb, got: Received, desc: [u32; 16]) -> Done
     ensures { λ r. ⌜ ((o : List ℕ) → receivedBy r o ≡ received got desc (c .buf) o) × (r .ctb .sender ≡ c .sender) ⌝ }
 {
     let buf = c.buf;
@@ -102,7 +102,7 @@ fn after_receive(c: Ctb, got: Received, desc: [u32; 16]) -> Done
 }
 
 // A step of a receive, which answers no length.
-fn no_length(s: Stepped) -> Received
+pub fn no_length(s: Stepped) -> Received
     ensures { λ r. ⌜ ((d b : List ℕ) → received r d b [] ≡ stepped s d b) ⌝ }
 {
     let next = s.next;

@@ -73,22 +73,15 @@ pub fn put_dword(s: &mut [u8], at: usize, v: u32)
     );
 }
 
-// Byte j of a name, zero padded.
-fn name_byte(name: &[u8], j: usize) -> u8
-    ensures { λ r. ⌜ r ≡ getD (now (name .entry)) j 0 ⌝ }
-{
-    if j < name.len() { name[j] } else { 0 }
-}
-
 // Stores four bytes of a name, from byte j of it on, at byte j.
 fn put_name_bytes(s: &mut [u8], name: &[u8], j: usize)
     requires { ⌜ j ≤ 8 ⌝ }
     ensures { λ _. ⌜ now (s .exit) ≡ Files.nameBytes (now (name .entry)) j (now (s .entry)) ⌝ }
 {
-    let a = name_byte(name, j);
-    let b = name_byte(name, j + 1);
-    let c = name_byte(name, j + 2);
-    let d = name_byte(name, j + 3);
+    let a = firmware::byte_at(name, j);
+    let b = firmware::byte_at(name, j + 1);
+    let c = firmware::byte_at(name, j + 2);
+    let d = firmware::byte_at(name, j + 3);
     put_four(s, j, a, b, c, d);
 }
 
@@ -154,6 +147,15 @@ pub fn put_entry(s: &mut [u8], at: usize, name: &[u8], offset: u32, len: u32)
     if at <= s.len() {
         put_entry_front(&mut s[at..], name, offset, len);
     }
+}
+
+// A file that is an image with those sizes, in a room.
+pub fn image(z: Sizes) -> Room
+    ensures { λ r. ⌜ r ≡ Files.from 0 (Files.header z) (replicate 4700 0) ⌝ }
+{
+    let mut room = blank();
+    put_image(&mut room, 0, z);
+    room
 }
 
 // A directory of two entries after a header of 20 bytes: a manifest of version 9.4.2.0 at byte 68, under that name, and

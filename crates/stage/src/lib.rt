@@ -7,6 +7,9 @@ mod messages;
 
 pub use channels::Ctb;
 pub use channels::Done;
+pub use channels::after_receive;
+pub use channels::after_send;
+pub use channels::no_length;
 pub use channels::open;
 pub use channels::receive;
 pub use channels::receive_copy;
@@ -24,6 +27,7 @@ pub use files::Room;
 pub use files::blank;
 pub use files::cut;
 pub use files::huc_directory;
+pub use files::image;
 pub use files::put_byte;
 pub use files::put_directory;
 pub use files::put_dword;

@@ -3,7 +3,6 @@ ghost use mathlib.Core.Path.{_≡_};
 ghost use mathlib.Core.Bool.{true};
 ghost use lib.ListN.{take, drop};
 ghost use Rattle.message.specs.declared.Body.the-variants.{Request, FastRequest};
-ghost use Rattle.channel.specs.State.{zeros};
 ghost use Rattle.stage.specs.Dwords.{FrontOf};
 ghost use Rattle.stage.specs.Messages.{untouched, hostMessage, messageIn, AsDue};
 use crate::dwords::back;
@@ -20,7 +19,7 @@ use message::Packed;
 pub fn untouched() -> [u32; MESSAGE_MAX]
     ensures { λ r. ⌜ r ≡ untouched ⌝ }
 {
-    let mut out = zeros();
+    let mut out = channel::no_copy();
     count_up(&mut out, 0x5000_0000);
     out
 }
@@ -53,18 +52,11 @@ pub fn fast_request(fence: u32, num_dwords: u32) -> [u32; MESSAGE_MAX]
     )
 }
 
-// A message of nothing yet.
-fn zeros() -> [u32; MESSAGE_MAX]
-    ensures { λ r. ⌜ r ≡ zeros ⌝ }
-{
-    [0u32; MESSAGE_MAX]
-}
-
 // A host's message with this body; all zeros where it cannot be packed.
 fn packed(fence: u32, num_dwords: u32, body: Body) -> [u32; MESSAGE_MAX]
     ensures { λ r. ⌜ r ≡ hostMessage fence «num_dwords» body ⌝ }
 {
-    let mut dwords = zeros();
+    let mut dwords = channel::no_copy();
     let m = Message {
         origin: Origin::Host,
         fence,
@@ -114,6 +106,6 @@ pub fn as_due(len: usize, out: &[u32; MESSAGE_MAX], due: &[u32; MESSAGE_MAX]) ->
 {
     let length_due = message::total_length(due[0]);
     let laid = laid_as_due(len, out, due);
-    let rest = rest_untouched(len, out);
-    ((len == 0) | (len == length_due)) & laid & rest
+    let others = rest_untouched(len, out);
+    ((len == 0) | (len == length_due)) & laid & others
 }

@@ -9,12 +9,12 @@ use Rattle.channel.specs.Opening.{Opening}
 
 -- a side that makes whole calls only is idle between them, and an idle state, 'L = 0, moved = 0, copy all zeros', has
 -- only N and the own offset to keep: these two dwords and no others
-unfoldable pub wholeOf : List ℕ → State
-wholeOf w = idleAt (getD w 0 0) (getD w 1 0)
+unfoldable pub idleOf : List ℕ → State
+idleOf w = idleAt (getD w 0 0) (getD w 1 0)
 
 -- the outcome of its call, and of an opening of two such sides
 abbrev pub inTwoWords : ℕ → ℕ → List ℕ → List ℕ → List ℕ → List ℕ → Outcome
-inTwoWords c l w d b o = record { code = c; len = l; next = wholeOf w; desc = d; buf = b; out = o }
+inTwoWords c l w d b o = record { code = c; len = l; next = idleOf w; desc = d; buf = b; out = o }
 
 abbrev pub openedTwoWords : ℕ → List ℕ → List ℕ → List ℕ → List ℕ → Opening
-openedTwoWords c s r d b = record { code = c; sender = wholeOf s; receiver = wholeOf r; desc = d; buf = b }
+openedTwoWords c s r d b = record { code = c; sender = idleOf s; receiver = idleOf r; desc = d; buf = b }

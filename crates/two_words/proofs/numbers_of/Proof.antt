@@ -1,11 +1,11 @@
 -- `numbers_of` meets its contract. Assumes nothing.
 use borrow.Author.Needs.{needs}
-use Rattle.two_words.specs.TwoWords.{wholeOf}
+use Rattle.two_words.specs.TwoWords.{idleOf}
 use Rattle.two_words.proofs.numbers_of.Statement.{statement}
 use Rattle.two_words.proofs.numbers_of.Tie as tie
 
 returns : tie.Need-returns
-unfolding wholeOf
+unfolding idleOf
 returns c = (c .before .before .wide .ensures, c .wide2 .ensures)
 
 pub numbers-of-spec : {M : Type 1} → statement M

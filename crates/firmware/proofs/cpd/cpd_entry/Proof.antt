@@ -7,7 +7,7 @@ use Rattle.firmware.proofs.cpd.cpd_entry.Statement.{statement}
 use Rattle.firmware.proofs.cpd.cpd_entry.Tie as tie
 
 returns : tie.Need-returns
-unfolding entryJudged Cpd.entryNumber Cpd.entryPlace
+unfolding entryJudged Cpd.entryNumber Cpd.entrySpan
 returns c = c .entry-located .ensures ∙ refl
 
 pub cpd-entry-spec : {M : Type 1} → statement M

@@ -27,8 +27,8 @@ loop-again c =
       omega arith,
       simp length-set (at-loop .loop .inv .1),
       below-more _ j
-          (λ k l. getD-set-other key j k (c .padded .result) 0 (λ e. absurd (omega arith)) ∙ at-loop .loop .inv .2 k l)
-          (getD-set-same key j (c .padded .result) 0 (omega arith) ∙ c .padded .ensures),
+          (λ k l. getD-set-other key j k (c .byte-at .result) 0 (λ e. absurd (omega arith)) ∙ at-loop .loop .inv .2 k l)
+          (getD-set-same key j (c .byte-at .result) 0 (omega arith) ∙ c .byte-at .ensures),
     )
 
 returns : tie.Need-returns Inv-loop μ-loop

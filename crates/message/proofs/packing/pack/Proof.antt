@@ -10,7 +10,7 @@ use borrow.Author.Tests.{ltb-true}
 use Rattle.message.specs.Fields.{fit, dword}
 use Rattle.message.specs.Types.{bodyFields}
 use Rattle.message.specs.Packing.{refusing, ofPacked, originNumber}
-use Rattle.message.specs.declared.packing.Placed.the-variants.{TooWide, Bits}
+use Rattle.message.specs.declared.packing.BodyBits.the-variants.{TooWide, Bits}
 use Rattle.message.proofs.Tests.{and-l, and-r, and-false}
 use Rattle.message.proofs.Tiling.{dword-lt}
 use Rattle.message.proofs.PackLaws.{pack-is, body-tiles, origin-fits}

@@ -10,8 +10,8 @@ use Rattle.runs.specs.Buffer.{laidFrom}
 use Rattle.runs.proofs.runs.lay_message.Statement.{statement}
 use Rattle.runs.proofs.runs.lay_message.Tie as tie
 
-lay-rest-requires : tie.Need-lay-rest-requires
-lay-rest-requires c κs =
+lay-read-requires : tie.Need-lay-read-requires
+lay-read-requires c κs =
     let a = c .before .before .before .before .before .args in
     let n = length (now (a .buf)) in
     let o = length (now (a .out)) in
@@ -30,7 +30,7 @@ returns : tie.Need-returns
 unfolding laidFrom
 returns c =
     let p = c .before .before .before .before .before .past .ensures in
-    (rw (c .before .before .before .before .if1 .taken) (c .before .before .lay-rest .ensures), p .0, p .1)
+    (rw (c .before .before .before .before .if1 .taken) (c .before .before .lay-read .ensures), p .0, p .1)
 
 returns-2 : tie.Need-returns-2
 unfolding laidFrom
@@ -43,7 +43,7 @@ lay-message-spec =
     tie.close
     (tie.spec
     (λ c κs. search needs)
-    lay-rest-requires
+    lay-read-requires
     (λ c. search needs)
     returns
     returns-2)

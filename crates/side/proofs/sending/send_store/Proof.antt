@@ -50,8 +50,8 @@ moved-is c = ap (λ (x : Counts). x .moved) (after-counts (c .before) .counts-of
 below : (c : tie.Else1) → after-counts (c .before) .counts-of .result .moved < 256
 below c = omega (arith, moved-is c, more c, fits c .short)
 
-copy-dword-requires : tie.Need-copy-dword-requires
-copy-dword-requires c κs = (refl, refl, omega (arith, below (c .before .before)))
+dword-of-copy-requires : tie.Need-dword-of-copy-requires
+dword-of-copy-requires c κs = (refl, refl, omega (arith, below (c .before .before)))
 
 -- the step that goes on, from behind its store
 abbrev goes-on : tie.After-slice-known2 → tie.Else1
@@ -71,7 +71,7 @@ returns-2 c =
       e .if1 .left,
       after-put .put .ensures,
       p,
-      after-put .before .before .before .copy-dword .ensures,
+      after-put .before .before .before .dword-of-copy .ensures,
       moved-is e,
       moved-set (stateOf w .moved + 1) w (search needs),
     )
@@ -85,7 +85,7 @@ send-store-spec =
     (λ c. search needs)
     (λ c κs. search needs)
     returns
-    copy-dword-requires
+    dword-of-copy-requires
     (λ c κs. search needs)
     (λ c κs. search needs)
     (λ c. omega (arith, below (goes-on c)))

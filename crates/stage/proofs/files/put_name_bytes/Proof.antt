@@ -10,8 +10,8 @@ returns c =
     let fourth = c .before .before .before .before in
     let third = fourth .before in
     let second = third .before in
-    simp (c .before .before .put-four .ensures, fourth .name-byte4 .ensures, third .name-byte3 .ensures)
-    (simp (second .name-byte2 .ensures, second .before .name-byte .ensures))
+    simp (c .before .before .put-four .ensures, fourth .byte-at4 .ensures, third .byte-at3 .ensures)
+    (simp (second .byte-at2 .ensures, second .before .byte-at .ensures))
 
 pub put-name-bytes-spec : {M : Type 1} → statement M
 put-name-bytes-spec =

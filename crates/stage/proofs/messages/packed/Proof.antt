@@ -8,7 +8,7 @@ use Rattle.stage.proofs.messages.packed.Tie as tie
 
 returns : tie.Need-returns
 returns c =
-    c .before .before .before .zeros .ensures ∙ packed-none _ _ (c .before .before .pack .ensures) (c .enum-told .given .1)
+    c .before .before .before .no-copy .ensures ∙ packed-none _ _ (c .before .before .pack .ensures) (c .enum-told .given .1)
 
 returns-2 : tie.Need-returns-2
 unfolding zeros
@@ -16,7 +16,7 @@ returns-2 c =
     let counted = c .before .before .before .before in
     let told = counted .before .before in
     let packed = told .before .before .before in
-    simp (c .before .put .ensures, counted .count-up .ensures, packed .before .zeros .ensures)
+    simp (c .before .put .ensures, counted .count-up .ensures, packed .before .no-copy .ensures)
     (packed-some _ _ _ _ (packed .pack .ensures) (told .before .header .given .1))
 
 pub packed-spec : {M : Type 1} → statement M

@@ -7,7 +7,7 @@ use Rattle.stage.proofs.messages.untouched.Tie as tie
 
 returns : tie.Need-returns
 unfolding untouched zeros
-returns c = simp (c .before .count-up .ensures, c .before .before .before .zeros .ensures)
+returns c = simp (c .before .count-up .ensures, c .before .before .before .no-copy .ensures)
 
 pub untouched-spec : {M : Type 1} → statement M
 untouched-spec = tie.close (tie.spec (λ c κs. search needs) (λ c. search needs) (λ c κs. search needs) returns)

@@ -1,12 +1,12 @@
--- `whole_open` meets its contract. Assumes nothing.
+-- `open` meets its contract. Assumes nothing.
 use mathlib.Core.Path.{sym, _∙_}
 use native.Mathlib.Omega.{arith}
 use borrow.Author.Tests.{ne-eqb}
 use Rattle.channel.specs.Opening.{openBy}
 use Rattle.channel.proofs.Going.{open-sixteen, open-high}
 use borrow.Author.Needs.{needs}
-use Rattle.two_words.proofs.whole_open.Statement.{statement}
-use Rattle.two_words.proofs.whole_open.Tie as tie
+use Rattle.two_words.proofs.open.Statement.{statement}
+use Rattle.two_words.proofs.open.Tie as tie
 
 returns : tie.Need-returns
 unfolding openBy
@@ -14,7 +14,7 @@ returns c =
     let after-make = c .before .before in
     let refused = after-make .before .before in
     let number = refused .before .open-number .ensures in
-    simp (← number, ne-eqb _ _ (refused .if1 .taken), after-make .make-whole .ensures, c .make-whole2 .ensures)
+    simp (← number, ne-eqb _ _ (refused .if1 .taken), after-make .make .ensures, c .make2 .ensures)
 
 cast-n : tie.Need-cast-n
 cast-n c = omega (arith, open-high _ _ (sym (c .before .open-number .ensures) ∙ c .if1 .left))
@@ -28,10 +28,10 @@ returns-2 c =
     let e = sym (opens-on .before .open-number .ensures) ∙ opens-on .if1 .left in
     let sixteen = open-sixteen _ _ e in
     let opens = rw sixteen at e in
-    simp (after-clear .clear .ensures, sixteen, opens, after-make .make-whole3 .ensures, c .make-whole4 .ensures)
+    simp (after-clear .clear .ensures, sixteen, opens, after-make .make3 .ensures, c .make4 .ensures)
 
-pub whole-open-spec : {M : Type 1} → statement M
-whole-open-spec =
+pub open-spec : {M : Type 1} → statement M
+open-spec =
     tie.close
     (tie.spec
     (λ c κs. search needs)

@@ -1,10 +1,10 @@
--- `words::copy_dword` meets its contract: the first two dwords are those words of the state. Assumes nothing.
+-- `words::dword_of_copy` meets its contract: the first two dwords are those words of the state. Assumes nothing.
 use mathlib.Core.Path.{_∙_}
 use denote.Ref.{now}
 use borrow.Author.Needs.{needs}
 use Rattle.side.proofs.InWords.{copy-at}
-use Rattle.side.proofs.words.copy_dword.Statement.{statement}
-use Rattle.side.proofs.words.copy_dword.Tie as tie
+use Rattle.side.proofs.words.dword_of_copy.Statement.{statement}
+use Rattle.side.proofs.words.dword_of_copy.Tie as tie
 
 returns : tie.Need-returns
 returns c =
@@ -21,8 +21,8 @@ returns-3 c =
     let a = c .before .before .before .before .args in
     c .dword-at .ensures ∙ copy-at (a .k) (now (a .w))
 
-pub copy-dword-spec : {M : Type 1} → statement M
-copy-dword-spec =
+pub dword-of-copy-spec : {M : Type 1} → statement M
+dword-of-copy-spec =
     tie.close
     (tie.spec
     returns

@@ -1,13 +1,13 @@
--- `whole_receive` meets its contract: its two words say whether it fits, and an accepted call moves its own
+-- `receive` meets its contract: its two words say whether it fits, and an accepted call moves its own
 -- offset. Assumes nothing.
 use native.Mathlib.Omega.{arith}
 use denote.Ref.{now}
 use borrow.Author.Needs.{needs}
-use Rattle.two_words.specs.TwoWords.{wholeOf}
-use Rattle.two_words.proofs.Laws.{own-whole}
+use Rattle.two_words.specs.TwoWords.{idleOf}
+use Rattle.two_words.proofs.Laws.{own-moved}
 use Rattle.channel.proofs.Wholes.{WholeReceived, whole-received}
-use Rattle.two_words.proofs.whole_receive.Statement.{statement}
-use Rattle.two_words.proofs.whole_receive.Tie as tie
+use Rattle.two_words.proofs.receive.Statement.{statement}
+use Rattle.two_words.proofs.receive.Tie as tie
 
 -- where the receive at once is made, and where the call starts
 abbrev after-whole : tie.After-struct-known2 → tie.After-whole-receive
@@ -23,13 +23,13 @@ said :
     (q : tie.After-whole-receive)
     → let a = start q .args in
     let l = q .whole-receive .last .1 .1 in
-    WholeReceived (wholeOf (now (a .w))) (now (a .out)) (now (a .desc)) (now (a .buf))
+    WholeReceived (idleOf (now (a .w))) (now (a .out)) (now (a .desc)) (now (a .buf))
     (q .whole-receive .result) (l .0) (l .1 .1 .0)
-unfolding wholeOf
+unfolding idleOf
 said q =
     let after-fits = q .before .before .before in
     let numbers = after-fits .before .numbers-of .ensures in
-    whole-received _ _ _ _ _ _ _ (rw (after-fits .fits-whole .ensures, numbers .0, numbers .1) at (q .whole-receive .ensures))
+    whole-received _ _ _ _ _ _ _ (rw (after-fits .fits-buffer .ensures, numbers .0, numbers .1) at (q .whole-receive .ensures))
 
 cast-w : tie.Need-cast-w
 cast-w c = omega (arith, said (after-whole (c .before .before)) .own-fits (c .before .if1 .taken))
@@ -38,13 +38,13 @@ returns : tie.Need-returns
 returns c =
     let q = after-whole (c .before .before) in
     let w = now (start q .args .w) in
-    said q .own-moves (c .before .if1 .taken) _ (own-whole (q .whole-receive .result .own) w (search needs))
+    said q .own-moves (c .before .if1 .taken) _ (own-moved (q .whole-receive .result .own) w (search needs))
 
 returns-2 : tie.Need-returns-2
 returns-2 c = said (after-whole (c .before)) .state-stays (c .if1 .left)
 
-pub whole-receive-spec : {M : Type 1} → statement M
-whole-receive-spec =
+pub receive-spec : {M : Type 1} → statement M
+receive-spec =
     tie.close
     (tie.spec
     (λ c κs. search needs)

@@ -1,4 +1,4 @@
--- `runs::lay_rest` meets its contract: behind the two dwords that are stored lie the runs that are read. Assumes
+-- `runs::lay_read` meets its contract: behind the two dwords that are stored lie the runs that are read. Assumes
 -- nothing.
 use Prim.Native.Nat.{_+_, _-_, _%_, _<_}
 use mathlib.Core.Path.{_≡_, _∙_}
@@ -10,8 +10,8 @@ use borrow.Rule.Slice.PartMut.{same-len-mid}
 use denote.Ref.{now}
 use Rattle.runs.proofs.Offsets.{past-is}
 use Rattle.runs.proofs.TwoRuns.{laid-behind}
-use Rattle.runs.proofs.runs.lay_rest.Statement.{statement}
-use Rattle.runs.proofs.runs.lay_rest.Tie as tie
+use Rattle.runs.proofs.runs.lay_read.Statement.{statement}
+use Rattle.runs.proofs.runs.lay_read.Tie as tie
 
 slice-write-out-2 : tie.Need-slice-write-out-2
 slice-write-out-2 c = simp length-set (omega arith)
@@ -39,8 +39,8 @@ returns c =
     laid-behind (now (a .out)) (now (a .buf)) (a .header) (a .second) (a .len) (a .own) _ _
     (omega arith) (omega arith) (omega arith) (omega arith) e (c .before .before .load-runs .ensures)
 
-pub lay-rest-spec : {M : Type 1} → statement M
-lay-rest-spec =
+pub lay-read-spec : {M : Type 1} → statement M
+lay-read-spec =
     tie.close
     (tie.spec
     (λ c. search needs)
