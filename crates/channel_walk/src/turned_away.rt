@@ -1,7 +1,5 @@
 // Calls with a message, a descriptor, a ring or an output that no call takes.
 use crate::calls;
-use channel::Receiver;
-use channel::Sender;
 use say::one;
 use say::text;
 use say::two;

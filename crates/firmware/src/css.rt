@@ -112,7 +112,8 @@ fn component_located(n: usize, needed: usize, truncated: bool, from: usize, to: 
     }
 }
 
-// Which of the four a component is, in their order. Asked by halves in `judge`, for a match of four is compiled to a jump table.
+// Which of the four a component is, in their order. Asked by halves in `judge`, for a match of four is compiled to a
+// jump table.
 fn rank(which: Component) -> u32
     ensures { λ r. ⌜ (r ≡ rank which) × (r < 4) ⌝ }
 {

@@ -97,7 +97,7 @@ pub fn cpd_marker(blob: &[u8]) -> bool
     cpd::has_marker(blob)
 }
 
-// A directory's number, and the bytes up to its entries' end.
+// A directory's number, and the bytes that it asks for.
 fn of_table(t: cpd::Table, there: usize) -> Figures
     ensures { λ r. ⌜ r ≡ figures (t .code) (t .needed) (t .needed) there ⌝ }
 {
