@@ -13,7 +13,8 @@ returns c =
     let second = third .before .before .before .before in
     let first = second .before .before .before .before in
     let x = now (first .before .before .before .before .args .name) in
-    third .put-name-bytes3 .ensures ∙ ap (nameBytes x 8) (second .put-name-bytes2 .ensures ∙ ap (nameBytes x 4) (first .put-name-bytes .ensures))
+    third .put-name-bytes3 .ensures
+    ∙ ap (nameBytes x 8) (second .put-name-bytes2 .ensures ∙ ap (nameBytes x 4) (first .put-name-bytes .ensures))
 
 pub put-name-spec : {M : Type 1} → statement M
 put-name-spec =
