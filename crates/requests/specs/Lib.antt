@@ -1,0 +1,6 @@
+pub mod Fence
+pub mod Table
+pub mod Calls
+pub mod Words
+pub mod Plan
+pub mod Private

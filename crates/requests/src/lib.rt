@@ -1,0 +1,24 @@
+// Replies matched to requests (document 02, T-06), on values: what a record says, which fence is next, and what a call
+// does to a table that it is not lent. `wall` carries it out.
+mod asking;
+mod fence;
+mod judging;
+mod planning;
+mod record;
+pub mod refusal;
+
+pub use asking::Ask;
+pub use asking::open;
+pub use asking::received;
+pub use asking::reply;
+pub use fence::FIRST_LAST;
+pub use fence::age;
+pub use planning::Answer;
+pub use planning::Begun;
+pub use planning::Plan;
+pub use planning::STATE_WORDS;
+pub use planning::begin;
+pub use planning::plan_call;
+pub use record::RECORDS_MAX;
+pub use record::Record;
+pub use record::word_of;

@@ -1,0 +1,226 @@
+// What a call does, planned on a table's words: its answer, and the one record that is stored.
+ghost use mathlib.Core.Path.{_≡_};
+ghost use lib.ListN.{getD, take};
+ghost use Rattle.requests.specs.Calls.{isReply, counted, recordAfter, answerOf};
+ghost use Rattle.requests.specs.Words.{records};
+ghost use Rattle.requests.specs.Plan.{refusedPlan, openPlan, openLast, replyPlan, planOf, lastOf, begun, begunLast};
+ghost use Rattle.requests.specs.Private.{Marked};
+use crate::asking::Ask;
+use crate::fence::FIRST_LAST;
+use crate::judging::FLAGS;
+use crate::judging::fence_twice;
+use crate::judging::lowest_free;
+use crate::judging::next_fence;
+use crate::judging::place_of;
+use crate::record::RECORDS_MAX;
+use crate::record::Record;
+use crate::record::record_of;
+use crate::refusal;
+
+// The state of a wall is one word, the last fence.
+pub const STATE_WORDS: usize = 1;
+
+// What a call answers: a number, then an opening's fence, or a reply's kind with the request's action and count. What a
+// call has no part in is 0, and on a refusal all is.
+#[repr(C)]
+pub struct Answer {
+    pub code: u32,
+    pub kind: u32,
+    pub fence: u16,
+    pub action: u16,
+    pub count: u16,
+}
+
+// What a call does: its answer, and the record that is stored at a place (the table's length for nothing).
+pub struct Plan {
+    pub at: usize,
+    pub stored: Record,
+    pub answer: Answer,
+}
+
+// A refusal stores nothing in a table of n records.
+fn refuse(code: u32, n: usize) -> Plan
+    ensures { λ r. ⌜ r ≡ refusedPlan code n ⌝ }
+{
+    Plan {
+        at: n,
+        stored: Record {
+            is_open: 0,
+            fence: 0,
+            action: 0,
+            count: 0,
+        },
+        answer: Answer {
+            code,
+            kind: 0,
+            fence: 0,
+            action: 0,
+            count: 0,
+        },
+    }
+}
+
+// An opening at the lowest free record, or 26.
+fn plan_open(words: &[u64], flags: &[u8; FLAGS], wall: &mut [u16; STATE_WORDS], action: u16) -> Plan
+    requires { ⌜ Marked (records (now words)) (now flags) ⌝ }
+    ensures { λ r. ⌜ r ≡ openPlan (records (now (words .entry))) (getD (now (wall .entry)) 0 0) action ⌝ }
+    ensures { λ r. ⌜ getD (now (wall .exit)) 0 0 ≡ openLast (records (now (words .entry))) (getD (now (wall .entry)) 0 0) ⌝ }
+{
+    let at = lowest_free(words);
+    if at == words.len() {
+        return refuse(refusal::TABLE_FULL, at);
+    }
+    let fence = next_fence(words, flags, wall[0]);
+    wall[0] = fence;
+    Plan {
+        at,
+        stored: Record {
+            is_open: 1,
+            fence,
+            action,
+            count: 0,
+        },
+        answer: Answer {
+            code: 0,
+            kind: 0,
+            fence,
+            action: 0,
+            count: 0,
+        },
+    }
+}
+
+// Whether a message of this type answers a request.
+fn is_reply(kind: u32) -> bool
+    ensures { λ r. ⌜ r ≡ isReply kind ⌝ }
+{
+    (kind == message::TYPE_BUSY)
+        | (kind == message::TYPE_RETRY)
+        | (kind == message::TYPE_FAILURE)
+        | (kind == message::TYPE_SUCCESS)
+}
+
+// One time more answered busy, stopping at 65,535.
+fn counted(n: u16) -> u16
+    ensures { λ r. ⌜ r ≡ counted n ⌝ }
+{
+    if n < 65535 { n + 1 } else { n }
+}
+
+// A reply of this kind to the record at a place: busy counts, the others close it.
+fn answer_at(at: usize, kind: u32, r: Record) -> Plan
+    ensures { λ p. ⌜ p ≡ record { at = at; stored = recordAfter kind r; answer = answerOf kind r } ⌝ }
+{
+    if kind == message::TYPE_BUSY {
+        let count = counted(r.count);
+        return Plan {
+            at,
+            stored: Record {
+                is_open: r.is_open,
+                fence: r.fence,
+                action: r.action,
+                count,
+            },
+            answer: Answer {
+                code: 0,
+                kind,
+                fence: 0,
+                action: r.action,
+                count,
+            },
+        };
+    }
+    Plan {
+        at,
+        stored: Record {
+            is_open: 0,
+            fence: 0,
+            action: 0,
+            count: 0,
+        },
+        answer: Answer {
+            code: 0,
+            kind,
+            fence: 0,
+            action: r.action,
+            count: r.count,
+        },
+    }
+}
+
+// A reply to the open record with its fence, or 27; before that the number that refused its message.
+fn plan_reply(words: &[u64], code: u32, kind: u32, fence: u32) -> Plan
+    ensures { λ r. ⌜ r ≡ replyPlan (records (now (words .entry))) code kind fence ⌝ }
+{
+    if code != 0 {
+        return refuse(code, words.len());
+    }
+    let at = place_of(fence as u64, words);
+    if at == words.len() {
+        return refuse(refusal::NO_REQUEST, at);
+    }
+    if !is_reply(kind) {
+        return refuse(refusal::NO_REQUEST, words.len());
+    }
+    answer_at(at, kind, record_of(words[at]))
+}
+
+// What is asked, planned for a table of n records that the words hold. 35 comes before all else.
+pub fn plan_call(
+    words: &[u64; RECORDS_MAX],
+    n: usize,
+    wall: &mut [u16; STATE_WORDS],
+    ask: Ask,
+) -> Plan
+    ensures { λ r. ⌜ r ≡ planOf (take n (records (now (words .entry)))) n (getD (now (wall .entry)) 0 0) ask ⌝ }
+    ensures { λ _.
+        ⌜ getD (now (wall .exit)) 0 0
+        ≡ lastOf (take n (records (now (words .entry)))) n (getD (now (wall .entry)) 0 0) ask ⌝ }
+{
+    if n < 1 {
+        return refuse(refusal::BAD_TABLE, n);
+    }
+    if RECORDS_MAX < n {
+        return refuse(refusal::BAD_TABLE, n);
+    }
+    let mut flags = [0; FLAGS];
+    let all = &words[..];
+    let table = &all[0..n];
+    if fence_twice(table, &mut flags) {
+        return refuse(refusal::BAD_TABLE, n);
+    }
+    if ask.opening {
+        return plan_open(table, &flags, wall, ask.action);
+    }
+    plan_reply(table, ask.code, ask.kind, ask.fence)
+}
+
+// What making a table fresh begins with: 0 and how many records are to be freed, or 35 and none.
+pub struct Begun {
+    pub code: u32,
+    pub records: usize,
+}
+
+pub fn begin(wall: &mut [u16; STATE_WORDS], n: usize) -> Begun
+    ensures { λ r. ⌜ r ≡ begun n ⌝ }
+    ensures { λ _. ⌜ getD (now (wall .exit)) 0 0 ≡ begunLast n (getD (now (wall .entry)) 0 0) ⌝ }
+{
+    if n < 1 {
+        return Begun {
+            code: refusal::BAD_TABLE,
+            records: 0,
+        };
+    }
+    if RECORDS_MAX < n {
+        return Begun {
+            code: refusal::BAD_TABLE,
+            records: 0,
+        };
+    }
+    wall[0] = FIRST_LAST;
+    Begun {
+        code: 0,
+        records: n,
+    }
+}
+

@@ -1,0 +1,53 @@
+// A record of a table, and the same in one word by value.
+ghost use mathlib.Core.Path.{_≡_};
+ghost use Rattle.requests.specs.Table.{isOpen, hasFence};
+ghost use Rattle.requests.specs.Words.{recordOf, wordOf};
+
+// 'a lent table of 1 to 256 request records'
+pub const RECORDS_MAX: usize = 256;
+
+// A request, or a free record: 0 in `is_open` is free, any other number open. `count` is how often it was answered busy.
+#[repr(C)]
+pub struct Record {
+    pub is_open: u16,
+    pub fence: u16,
+    pub action: u16,
+    pub count: u16,
+}
+
+// The four numbers of a record side by side.
+pub fn word_of(r: Record) -> u64
+    ensures { λ w. ⌜ w ≡ wordOf r ⌝ }
+{
+    r.is_open as u64
+        + r.fence as u64 * 0x1_0000
+        + r.action as u64 * 0x1_0000_0000
+        + r.count as u64 * 0x1_0000_0000_0000
+}
+
+// The record in a word.
+pub(crate) fn record_of(word: u64) -> Record
+    ensures { λ r. ⌜ r ≡ recordOf word ⌝ }
+{
+    Record {
+        is_open: (word % 0x1_0000) as u16,
+        fence: (word / 0x1_0000 % 0x1_0000) as u16,
+        action: (word / 0x1_0000_0000 % 0x1_0000) as u16,
+        count: (word / 0x1_0000_0000_0000 % 0x1_0000) as u16,
+    }
+}
+
+// Whether the record in a word is open.
+pub(crate) fn is_open(word: u64) -> bool
+    ensures { λ r. ⌜ r ≡ isOpen (recordOf word) ⌝ }
+{
+    word % 0x1_0000 != 0
+}
+
+// Whether it is open with this fence.
+pub(crate) fn has_fence(fence: u64, word: u64) -> bool
+    ensures { λ r. ⌜ r ≡ hasFence fence (recordOf word) ⌝ }
+{
+    is_open(word) & (word / 0x1_0000 % 0x1_0000 == fence)
+}
+

@@ -1,0 +1,1 @@
+// A lent table of requests: the functions over it.
