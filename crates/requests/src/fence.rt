@@ -16,6 +16,10 @@ pub(crate) fn after(fence: u16) -> u16
 pub fn age(fence: u16, newest: u16) -> i32
     ensures { λ r. ⌜ r ≡ age fence newest ⌝ }
 {
-    let d = (fence as i32 + 65536 - newest as i32) % 65536;
-    if d < 32768 { d } else { d - 65536 }
+    let d = (fence as u32 + 65536 - newest as u32) % 65536;
+    if d < 32768 {
+        d as i32
+    } else {
+        d as i32 - 65536
+    }
 }

@@ -2,6 +2,7 @@
 // table itself.
 ghost use mathlib.Core.Path.{_≡_};
 ghost use mathlib.Core.Bool.{false};
+ghost use lib.ListN.{length};
 ghost use Rattle.requests.specs.Fence.{nextFence};
 ghost use Rattle.requests.specs.Table.{stillOpen, fenceTwice, lowestFree, placeOf};
 ghost use Rattle.requests.specs.Words.{records};
@@ -44,6 +45,7 @@ pub(crate) fn lowest_free(words: &[u64]) -> usize
 // Whether two open records have one fence. A fence is compared with those before it only where one of them has its low
 // eight bits: 256 fences picked one after another never do. The flags stay, for whoever picks the next fence.
 pub(crate) fn fence_twice(words: &[u64], flags: &mut [u8; FLAGS]) -> bool
+    requires { ⌜ length (now flags) ≡ 256 ⌝ }
     ensures { λ r. ⌜ r ≡ fenceTwice (records (now (words .entry))) ⌝ }
     ensures { λ r. ⌜ (r ≡ false → Marked (records (now (words .entry))) (now (flags .exit))) ⌝ }
 {
@@ -85,4 +87,3 @@ pub(crate) fn next_fence(words: &[u64], flags: &[u8; FLAGS], last: u16) -> u16
     }
     fence
 }
-

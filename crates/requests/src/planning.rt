@@ -1,6 +1,6 @@
 // What a call does, planned on a table's words: its answer, and the one record that is stored.
 ghost use mathlib.Core.Path.{_≡_};
-ghost use lib.ListN.{getD, take};
+ghost use lib.ListN.{length, getD, take};
 ghost use Rattle.requests.specs.Calls.{isReply, counted, recordAfter, answerOf};
 ghost use Rattle.requests.specs.Words.{records};
 ghost use Rattle.requests.specs.Plan.{refusedPlan, openPlan, openLast, replyPlan, planOf, lastOf, begun, begunLast};
@@ -61,8 +61,9 @@ fn refuse(code: u32, n: usize) -> Plan
 }
 
 // An opening at the lowest free record, or 26.
-fn plan_open(words: &[u64], flags: &[u8; FLAGS], wall: &mut [u16; STATE_WORDS], action: u16) -> Plan
+fn plan_open(words: &[u64], flags: &[u8; FLAGS], wall: &mut [u16], action: u16) -> Plan
     requires { ⌜ Marked (records (now words)) (now flags) ⌝ }
+    requires { ⌜ length (now wall) ≡ 1 ⌝ }
     ensures { λ r. ⌜ r ≡ openPlan (records (now (words .entry))) (getD (now (wall .entry)) 0 0) action ⌝ }
     ensures { λ r. ⌜ getD (now (wall .exit)) 0 0 ≡ openLast (records (now (words .entry))) (getD (now (wall .entry)) 0 0) ⌝ }
 {
@@ -172,10 +173,10 @@ pub fn plan_call(
     wall: &mut [u16; STATE_WORDS],
     ask: Ask,
 ) -> Plan
-    ensures { λ r. ⌜ r ≡ planOf (take n (records (now (words .entry)))) n (getD (now (wall .entry)) 0 0) ask ⌝ }
-    ensures { λ _.
-        ⌜ getD (now (wall .exit)) 0 0
-        ≡ lastOf (take n (records (now (words .entry)))) n (getD (now (wall .entry)) 0 0) ask ⌝ }
+    ensures { λ r.
+        ⌜ (r ≡ planOf (take n (records (now (words .entry)))) n (getD (now (wall .entry)) 0 0) ask)
+        × (getD (now (wall .exit)) 0 0
+        ≡ lastOf (take n (records (now (words .entry)))) n (getD (now (wall .entry)) 0 0) ask) ⌝ }
 {
     if n < 1 {
         return refuse(refusal::BAD_TABLE, n);
@@ -190,7 +191,7 @@ pub fn plan_call(
         return refuse(refusal::BAD_TABLE, n);
     }
     if ask.opening {
-        return plan_open(table, &flags, wall, ask.action);
+        return plan_open(table, &flags, &mut wall[..], ask.action);
     }
     plan_reply(table, ask.code, ask.kind, ask.fence)
 }
@@ -202,8 +203,7 @@ pub struct Begun {
 }
 
 pub fn begin(wall: &mut [u16; STATE_WORDS], n: usize) -> Begun
-    ensures { λ r. ⌜ r ≡ begun n ⌝ }
-    ensures { λ _. ⌜ getD (now (wall .exit)) 0 0 ≡ begunLast n (getD (now (wall .entry)) 0 0) ⌝ }
+    ensures { λ r. ⌜ (r ≡ begun n) × (getD (now (wall .exit)) 0 0 ≡ begunLast n (getD (now (wall .entry)) 0 0)) ⌝ }
 {
     if n < 1 {
         return Begun {
@@ -217,10 +217,10 @@ pub fn begin(wall: &mut [u16; STATE_WORDS], n: usize) -> Begun
             records: 0,
         };
     }
-    wall[0] = FIRST_LAST;
+    let state = &mut wall[..];
+    state[0] = FIRST_LAST;
     Begun {
         code: 0,
         records: n,
     }
 }
-

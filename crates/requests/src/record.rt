@@ -50,4 +50,3 @@ pub(crate) fn has_fence(fence: u64, word: u64) -> bool
 {
     is_open(word) & (word / 0x1_0000 % 0x1_0000 == fence)
 }
-

@@ -1,0 +1,9 @@
+pub mod Maps
+pub mod Tables
+pub mod Sets
+pub mod Once
+pub mod Fences
+pub mod Openings
+pub mod Replies
+pub mod Steps
+pub mod Theorem

@@ -1,0 +1,87 @@
+-- `planning::plan_call` meets its contract: the words that are judged are the first n, and the state has one word.
+-- Assumes nothing.
+use Prim.Native.Nat.{ℕ, _-_}
+use mathlib.Core.Path.{_≡_, sym, _∙_}
+use mathlib.Core.Bool.{true, false}
+use mathlib.Core.List.{List}
+use native.Mathlib.Nat.{sub-zero}
+use native.Mathlib.Omega.{arith}
+use lib.ListN.{take}
+use denote.Ref.{now}
+use borrow.Author.Needs.{needs}
+use Rattle.requests.specs.Words.{records}
+use Rattle.requests.specs.Table.{fenceTwice, allowedLength}
+use Rattle.requests.proofs.Walks.{take-records}
+use Rattle.requests.proofs.Plans.{allowed-is, none-not, long-not}
+use Rattle.requests.proofs.Plans.{plan-unfit, last-unfit, plan-twice, last-twice}
+use Rattle.requests.proofs.Plans.{plan-opens, last-opens, plan-replies, last-replies}
+use Rattle.requests.proofs.planning.plan_call.Statement.{statement}
+use Rattle.requests.proofs.planning.plan_call.Tie as tie
+
+-- the part of the words that is lent, and the first records
+lent : (n : ℕ) (words : List ℕ) → records (take (n - 0) words) ≡ take n (records words)
+lent n words = rw (sub-zero, take-records)
+
+returns : tie.Need-returns
+returns c =
+    let e = none-not _ (c .before .if1 .taken) in
+    (c .refuse .ensures ∙ sym (plan-unfit _ _ _ _ e), sym (last-unfit _ _ _ _ e))
+
+returns-2 : tie.Need-returns-2
+returns-2 c =
+    let e = long-not _ (c .before .if2 .taken) in
+    (c .refuse2 .ensures ∙ sym (plan-unfit _ _ _ _ e), sym (last-unfit _ _ _ _ e))
+
+returns-3 : tie.Need-returns-3
+returns-3 c =
+    let q = c .before .before in
+    let e = sym (rw lent at (q .fence-twice .ensures .0)) ∙ c .before .if3 .taken in
+    (c .refuse3 .ensures ∙ sym (plan-twice _ _ _ _ e), sym (last-twice _ _ _ _ e))
+
+plan-open-requires : tie.Need-plan-open-requires
+plan-open-requires c κs =
+    let q = c .before .before .before in
+    (q .before .fence-twice .ensures .1 (q .if3 .left), c .plan-open-arg .given .0 .1)
+
+-- past the tests of the table it is fit
+abbrev start : tie.Else3 → tie.Start
+start q = q .before .before .before .before .before .before .before
+
+fit : (q : tie.Else3) → allowedLength (start q .args .n) ≡ true
+fit q = allowed-is (start q .args .n) (omega arith) (omega arith)
+
+once : (q : tie.Else3) → fenceTwice (take (start q .args .n) (records (now (start q .args .words)))) ≡ false
+once q = sym (rw lent at (q .before .fence-twice .ensures .0)) ∙ q .if3 .left
+
+returns-4 : tie.Need-returns-4
+returns-4 c =
+    let q = c .before .before .before .before in
+    let o = c .before .before .before .if4 .taken in
+    let e = rw lent at (c .plan-open .ensures) in
+    (e .0 ∙ sym (plan-opens _ _ _ _ (fit q) (once q) o), e .1 ∙ sym (last-opens _ _ _ _ (fit q) (once q) o))
+
+returns-5 : tie.Need-returns-5
+returns-5 c =
+    let q = c .before .before in
+    let o = c .before .if4 .left in
+    let e = rw lent at (c .plan-reply .ensures) in
+    (e ∙ sym (plan-replies _ _ _ _ (fit q) (once q) o), sym (last-replies _ _ _ _ (fit q) (once q) o))
+
+pub plan-call-spec : {M : Type 1} → statement M
+plan-call-spec =
+    tie.close
+    (tie.spec
+    (λ c κs. search needs)
+    returns
+    (λ c κs. search needs)
+    returns-2
+    (λ c. search needs)
+    (λ c. search needs)
+    (λ c. search needs)
+    (λ c κs. search needs)
+    (λ c κs. search needs)
+    returns-3
+    plan-open-requires
+    returns-4
+    (λ c κs. search needs)
+    returns-5)
