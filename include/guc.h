@@ -1,14 +1,15 @@
 /* guc.h: the C interface of libguc, for callers in a kernel or a program. One direction of a
- * command transport buffer (CTB), the CTB and HXG words of its messages, and the parts of CSS and
- * HuC CPD firmware images.
+ * command transport buffer (CTB), the CTB and HXG words of its messages, replies matched to the
+ * requests of a whole wall, and the parts of CSS and HuC CPD firmware images.
  *
  * ANSWERS ARE POSITIVE. 0 is accepted, and every refusal is a number above 0 of enum guc_number:
  * `if (ret < 0)` never fires, write `if (ret)`. A compiler warns where nobody looks at an answer.
  *
  * Every function is total: it answers any contents and any counts, it never aborts, and it keeps
  * nothing between calls; there is no hidden state and no allocation. Where several numbers apply,
- * the lowest is given, but 22 is tested before 21, and a part inside a directory is judged only
- * after the directory itself; 101 is judged before all others, 100 after them.
+ * the lowest is given, but 22 is tested before 21, 35 before all others of a wall, and a part
+ * inside a directory is judged only after the directory itself; 101 is judged before all others,
+ * 100 after them.
  *
  * "Changes" below names everything a call may change; the rest stays, also on a refusal.
  *
@@ -69,9 +70,9 @@ extern "C" {
 uint32_t guc_interface_2(void);
 static uint32_t (*const guc_interface_linked)(void) GUC_KEPT = guc_interface_2;
 
-/* The answers: name, number, and the sentence that guc_strerror has for a log. 0 to 22 are the
- * specification's (22 by a change request, tested after 20 and before 21), 100 and 101 this
- * interface's. 1 is not given here, for struct guc_descriptor is 16 dwords. 7 sets STATUS to 1, 8
+/* The answers: name, number, and the sentence that guc_strerror has for a log. 0 to 35 are the
+ * specification's (from 22 on by change requests; 22 is tested after 20 and before 21), 100 and 101
+ * this interface's. 1 is not given here, for struct guc_descriptor is 16 dwords. 7 sets STATUS to 1, 8
  * to 4, 9 to 2; 13 moves HEAD past the message. */
 #define GUC_NUMBERS(X) \
 	X(GUC_OK, 0, "accepted") \
@@ -97,6 +98,9 @@ static uint32_t (*const guc_interface_linked)(void) GUC_KEPT = guc_interface_2;
 	X(GUC_NO_ENTRY, 20, "no entry has that name") \
 	X(GUC_CPD_BEYOND, 21, "the entry's part lies beyond the directory's end") \
 	X(GUC_DUPLICATE_ENTRY, 22, "more than one entry has that name") \
+	X(GUC_TABLE_FULL, 26, "every record of the table is open") \
+	X(GUC_NO_REQUEST, 27, "no open request has that fence, or the message is no reply") \
+	X(GUC_BAD_TABLE, 35, "a table has 1 to 256 records, and no fence is open twice in it") \
 	X(GUC_NO_ROOM, 100, "the destination is too short") \
 	X(GUC_NO_SUCH, 101, "no such type or component")
 
@@ -113,7 +117,9 @@ enum {
 	GUC_RING_UNIT = 1024,      /* N is a multiple of it */
 	GUC_RING_MIN = 1024,
 	GUC_RING_MAX = 16384,
-	GUC_NAME_BYTES = 12        /* longest name of a directory's entry */
+	GUC_NAME_BYTES = 12,       /* longest name of a directory's entry */
+	GUC_RECORDS_MAX = 256,     /* most records of a table of requests */
+	GUC_FIRST_LAST = 65535     /* the last fence of a fresh wall: the first one given is 0 */
 };
 
 /* STATUS of a descriptor. Anything but good is broken, unknown bits too. */
@@ -192,6 +198,28 @@ struct guc_unpacked {
 	uint32_t type;       /* enum guc_type */
 	uint32_t first;      /* by type */
 	uint32_t second;     /* by type; 0 for a type with one field */
+};
+
+/* A record of a table of requests. 0 in open is free, whatever the others hold; any other number is
+ * an open request. A fresh or closed record is all zeros. */
+struct guc_record {
+	uint16_t open;   /* 0 free, else open; an opening writes 1 */
+	uint16_t fence;
+	uint16_t action;
+	uint16_t count;  /* times answered busy, at most 65,535 */
+};
+
+/* What the calls of one wall share: the last fence given out. */
+struct guc_wall { uint16_t last; };
+
+/* What a call of a wall answers: a number, then an opening's fence, or a reply's kind with the
+ * request's action and count. The others are 0, and on a refusal all are. */
+struct guc_wall_answer {
+	uint32_t code;
+	uint32_t kind;   /* GUC_TYPE_BUSY, _RETRY, _FAILURE or _SUCCESS */
+	uint16_t fence;
+	uint16_t action;
+	uint16_t count;  /* this busy in it */
 };
 
 /* truncated is 1 where the image has neither modulus nor exponent. */
@@ -323,6 +351,42 @@ GUC_ANSWER struct guc_packed guc_pack(uint32_t origin, uint32_t fence, uint32_t 
  * Answers 0, or 4 for a malformed message.
  * Changes nothing. */
 GUC_ANSWER struct guc_unpacked guc_unpack(const uint32_t *msg, size_t len);
+
+/* A WALL OF REQUESTS
+ *
+ * Many requests under way at once, and each reply finds its own. table and records are a table of
+ * that many records, 1 to GUC_RECORDS_MAX; table and wall are the caller's, one call at a time.
+ * Nothing is sent or received here: open, send a request with the fence that was given, receive,
+ * and hand each received message to guc_wall_reply.
+ *
+ * Every call but guc_wall_fresh judges the whole table first: another number of records, or two
+ * open records with one fence, is 35. Each record is read once, and at most one is written. */
+
+/* Makes a table fresh, whatever it holds: every record all zeros, the last fence 65,535.
+ * Answers 0, or 35 for another number of records.
+ * Changes table and wall on 0. */
+GUC_ANSWER uint32_t guc_wall_fresh(struct guc_wall *wall, struct guc_record *table,
+    size_t records);
+
+/* Opens a request with this action. Its fence is the next after wall's last that is not open,
+ * counting up and wrapping after 65,535; its record the lowest free one.
+ * Answers 0 and the fence, or 35 or 26 (every record is open).
+ * Changes that record and wall on 0. */
+GUC_ANSWER struct guc_wall_answer guc_wall_open(struct guc_wall *wall, struct guc_record *table,
+    size_t records, uint16_t action);
+
+/* Matches a received message of msg_len dwords to the open request with its fence. Success, failure
+ * and retry close it (after retry the request is to be sent again, as a new one); busy adds one to
+ * its count, which stops at 65,535, and leaves it open. The origin is not asked.
+ * Answers 0 with the kind, the request's action and its count, or 35, 4 (malformed) or 27 (no open
+ * request has the fence, or the message is a request, an event or a fast request).
+ * Changes that record on 0. */
+GUC_ANSWER struct guc_wall_answer guc_wall_reply(struct guc_wall *wall, struct guc_record *table,
+    size_t records, const uint32_t *msg, size_t msg_len);
+
+/* The age of a fence beside the newest one: fence less newest, modulo 65,536, from -32,768 to
+ * 32,767. 0 is the newest itself, below 0 are older ones; fence 0 with newest 65,535 is 1. */
+GUC_ANSWER int32_t guc_wall_age(uint16_t fence, uint16_t newest);
 
 /* FIRMWARE
  *

@@ -1,3 +1,4 @@
+pub mod Freed
 pub mod Records
 pub mod Shared
 pub mod Words

@@ -89,9 +89,10 @@ abbrev State : RattleType
 State = Array u16 1
 
 abbrev stayed : Stays (f.ended .signature .params) (f.ended .kept)
-stayed =
-    (gave-ref (0 ∷ []) tt (plain (λ _. State)),
-    (gave-slice (1 ∷ []) tt (plain (λ _. R)), (stay-none (λ _. K.the-row) yes, tt)))
+stayed = (
+  gave-ref (0 ∷ []) tt (plain (λ _. State)),
+  (gave-slice (1 ∷ []) tt (plain (λ _. R)), (stay-none (λ _. K.the-row) yes, tt)),
+)
 
 -- ---- the locals' types
 abbrev word64 : Ty
@@ -181,9 +182,16 @@ module _ {M : Type 1} (𝓤 : URA M) (H : Heap 𝓤) (A : Atoms 𝓤) (W : Given
   judge-arg δ m = (x₂ δ, (m, (x₁, (ask, tt))))
 
   abbrev to-judge : ℕ → GName → ℕ → Judge 𝓤 H A mem run .Ghost
-  to-judge ν δ m =
-      (((ν ∷ [], (κ₁, tt)), (fullShare, (q₁, tt)), tt, judge-arg δ m,
-      (s ∷ [], (vint w64 m ∷ [], (vptr b₁ o₁ ∷ [], (asked ∷ [], tt))))), tt)
+  to-judge ν δ m = (
+    (
+      (ν ∷ [], (κ₁, tt)),
+      (fullShare, (q₁, tt)),
+      tt,
+      judge-arg δ m,
+      (s ∷ [], (vint w64 m ∷ [], (vptr b₁ o₁ ∷ [], (asked ∷ [], tt)))),
+    ),
+    tt,
+  )
 
   goes-judge : (ν : ℕ) (δ : GName) (m : ℕ) → m < 2 ^ 64 → m ≡ kept n
       → ent 𝓤 (sep 𝓤 (sep 𝓤 (A .lft (ν ∷ []) fullShare) (sep 𝓤 (A .lft κ₁ q₁) (sem 𝓤 H A ftrue)))
@@ -360,8 +368,10 @@ meets : {M : Type 1} (𝓤 : URA M) (H : Heap 𝓤) (A : Atoms 𝓤) (W : Given 
     → Triple 𝓤 (𝓣 .C #wall·store) (Store 𝓤 H A mem run)
     → Meets 𝓤 H A f.signature (WpFn 𝓤 H (𝓣 .C) (𝓣 .Λ) code.function) (f.spec 𝓤 H A mem run)
 meets 𝓤 H A W mem run 𝓣 k₁ k₂ k₃ =
-    walk-meets 𝓤 H A f.ended stayed W (goes-gave-ref 𝓤 H A W 2 0 tt (plain (λ _. State)),
-    (goes-gave-slice 𝓤 H A W 2 1 tt (plain (λ _. R)), (goes-none 𝓤 H A W 2 (λ _. K.the-row) yes (λ κs x f. refl), tt)))
+    walk-meets 𝓤 H A f.ended stayed W (
+      goes-gave-ref 𝓤 H A W 2 0 tt (plain (λ _. State)),
+      (goes-gave-slice 𝓤 H A W 2 1 tt (plain (λ _. R)), (goes-none 𝓤 H A W 2 (λ _. K.the-row) yes (λ κs x f. refl), tt)),
+    )
     (f.clauses 𝓤 H A mem run) (WpFn 𝓤 H (𝓣 .C) (𝓣 .Λ) code.function) (WpFn-mono 𝓤 H (W .laws) 𝓣 code.function)
     (walks 𝓤 H A W mem run (𝓣 .C) (𝓣 .Λ) (fmOf 𝓤 H (W .laws) 𝓣) k₁ k₂ k₃)
 

@@ -280,9 +280,9 @@ module _ {M : Type 1} (𝓤 : URA M) (H : Heap 𝓤) (A : Atoms 𝓤) (W : Given
   -- the locals, with their types spelled out
   abbrev Locals : List Local
   Locals =
-        local tyUnit valueLocal ∷ local slice valueLocal ∷ local word64 valueLocal ∷ local T′.mir valueLocal
-        ∷ local word64 valueLocal ∷ local tyBool valueLocal ∷ local word64 valueLocal ∷ local tyPtr valueLocal
-        ∷ []
+      local tyUnit valueLocal ∷ local slice valueLocal ∷ local word64 valueLocal ∷ local T′.mir valueLocal
+      ∷ local word64 valueLocal ∷ local tyBool valueLocal ∷ local word64 valueLocal ∷ local tyPtr valueLocal
+      ∷ []
 
   abbrev Entry : List (Item 𝓤)
   Entry = (‵ (flft κ q) ⊛ ‵ ftrue) ∷ ‵ (owns (MutSlice (named 0) κ R ∷ usize ∷ []) x at) ∷ []
@@ -310,8 +310,10 @@ module _ {M : Type 1} (𝓤 : URA M) (H : Heap 𝓤) (A : Atoms 𝓤) (W : Given
 meets : {M : Type 1} (𝓤 : URA M) (H : Heap 𝓤) (A : Atoms 𝓤) → Given 𝓤 H A → (mem : Memory → SProp 𝓤) (run : Routine → Fun 𝓤)
     (𝓣 : Tables 𝓤 H) → Meets 𝓤 H A f.signature (WpFn 𝓤 H (𝓣 .C) (𝓣 .Λ) code.function) (f.spec 𝓤 H A mem run)
 meets 𝓤 H A W mem run 𝓣 =
-    walk-meets 𝓤 H A f.ended stayed W (goes-slice 𝓤 H A W 1 0 tt (plain (λ _. R)),
-    (goes-none 𝓤 H A W 1 (λ _. usize) yes (λ κs x f. refl), tt)) (f.clauses 𝓤 H A mem run)
+    walk-meets 𝓤 H A f.ended stayed W (
+      goes-slice 𝓤 H A W 1 0 tt (plain (λ _. R)),
+      (goes-none 𝓤 H A W 1 (λ _. usize) yes (λ κs x f. refl), tt),
+    ) (f.clauses 𝓤 H A mem run)
     (WpFn 𝓤 H (𝓣 .C) (𝓣 .Λ) code.function) (WpFn-mono 𝓤 H (W .laws) 𝓣 code.function) (walks 𝓤 H A W mem run 𝓣)
 
 pub clear-spec : {M : Type 1} → stated.statement M

@@ -112,9 +112,10 @@ abbrev againRef : Ty
 againRef = tyRef erased mut (pointee (State .written))
 
 abbrev stayed : Stays (f.ended .signature .params) (f.ended .kept)
-stayed =
-    (stay-none-slice (0 ∷ []) tt (plain (λ _. R)) yes,
-    (stay-none (λ _. usize) yes, (gave-ref (1 ∷ []) tt (plain (λ _. State)), (stay-none (λ _. K.the-row) yes, tt))))
+stayed = (
+  stay-none-slice (0 ∷ []) tt (plain (λ _. R)) yes,
+  (stay-none (λ _. usize) yes, (gave-ref (1 ∷ []) tt (plain (λ _. State)), (stay-none (λ _. K.the-row) yes, tt))),
+)
 
 holds : (t : Bool) → Holds t → t ≡ true
 holds true _ = refl
@@ -189,9 +190,16 @@ module _ {M : Type 1} (𝓤 : URA M) (H : Heap 𝓤) (A : Atoms 𝓤) (W : Given
   plan-arg l δ zs = (lent l δ zs, (n, (x₃, (ask, tt))))
 
   abbrev to-plan : ℕ → ℕ → GName → List ℕ → PlanCall 𝓤 H A mem run .Ghost
-  to-plan ν l δ zs =
-      (((ν ∷ [], (κ₂, tt)), (fullShare, (q₂, tt)), tt, plan-arg l δ zs,
-      (vptr l 0 ∷ [], (vint w64 n ∷ [], (vptr b₂ o₂ ∷ [], (asked ∷ [], tt))))), tt)
+  to-plan ν l δ zs = (
+    (
+      (ν ∷ [], (κ₂, tt)),
+      (fullShare, (q₂, tt)),
+      tt,
+      plan-arg l δ zs,
+      (vptr l 0 ∷ [], (vint w64 n ∷ [], (vptr b₂ o₂ ∷ [], (asked ∷ [], tt)))),
+    ),
+    tt,
+  )
 
   goes-plan : (ν l : ℕ) (δ : GName) (zs : List ℕ)
       → ent 𝓤 (sep 𝓤 (sep 𝓤 (A .lft (ν ∷ []) fullShare) (sep 𝓤 (A .lft κ₂ q₂) (sem 𝓤 H A ftrue)))
@@ -227,9 +235,9 @@ module _ {M : Type 1} (𝓤 : URA M) (H : Heap 𝓤) (A : Atoms 𝓤) (W : Given
   -- what the rest of the proof knows of the end: a result and a state that meet the contract are one
   module _ (Post : Val → SProp 𝓤)
       (exits : (p : Plan) (us : List ℕ) → Is P.the-row p (P′.lowered p ∷ []) → carried p ys us ≡ calling ys (getD ws 0 0) ask
-        → ent 𝓤 (⋆ 𝓤 H A (‵ (flft κ q) ∷ (‵ (flft κ₂ q₂) ⊛ ‵ ftrue) ∷ ‵ (ShrSlice (named 0) κ R .own x₁ (s ∷ []))
-        ∷ ‵ (usize .own m (vint w64 m ∷ [])) ∷ ‵ (fres γ₂ (State .coded .code us))
-        ∷ ‵ (fsep (K.the-row .own ask (asked ∷ [])) ftrue) ∷ [])) (Post (P′.lowered p))) where
+      → ent 𝓤 (⋆ 𝓤 H A (‵ (flft κ q) ∷ (‵ (flft κ₂ q₂) ⊛ ‵ ftrue) ∷ ‵ (ShrSlice (named 0) κ R .own x₁ (s ∷ []))
+      ∷ ‵ (usize .own m (vint w64 m ∷ [])) ∷ ‵ (fres γ₂ (State .coded .code us))
+      ∷ ‵ (fsep (K.the-row .own ask (asked ∷ [])) ftrue) ∷ [])) (Post (P′.lowered p))) where
     module _ (𝓣 : Tables 𝓤 H) (fm : FmC 𝓤 H (W .laws) (𝓣 .C)) (known-word : Triple 𝓤 (𝓣 .C #requests·word-of) (Word 𝓤 H A mem run))
         (known-plan : Triple 𝓤 (𝓣 .C #requests·plan-call) (PlanCall 𝓤 H A mem run))
         (l₀ l₁ l₂ l₃ l₄ l₅ l₆ l₇ l₈ l₉ l₁₀ l₁₁ l₁₂ l₁₃ l₁₄ l₁₅ l₁₆ l₁₇ : ℕ) (q′ : Share) where
@@ -535,8 +543,16 @@ module _ {M : Type 1} (𝓤 : URA M) (H : Heap 𝓤) (A : Atoms 𝓤) (W : Given
   walks 𝓣 k₁ k₂ =
       walked 𝓤 H A f.ended stayed (f.clauses 𝓤 H A mem run) (WpFn 𝓤 H (𝓣 .C) (𝓣 .Λ) code.function)
       (λ κs. (slice-vals, (uint-vals w64, (ptr-vals, (LL.vals K.the-type K′.the-laws, tt)))))
-      (λ κs. (shr-slice-tells (named 0) (κs .0) R, (uint-tells w64, (mut-tells (named 1) (κs .1 .0) State,
-      (LL.tells K.the-type K′.the-laws, tt)))))
+      (λ κs. (
+        shr-slice-tells (named 0) (κs .0) R,
+        (
+          uint-tells w64,
+          (
+            mut-tells (named 1) (κs .1 .0) State,
+            (LL.tells K.the-type K′.the-laws, tt),
+          ),
+        ),
+      ))
       (λ κs qs bounds a g are. needs 𝓤 (a .1 .0 ≡ kept (length (a .0 .now))) _ (λ ok.
       walk 𝓤 H A W mem run (κs .0) (κs .1 .0) (qs .0) (qs .1 .0) (a .0 .ptr .0) (a .0 .ptr .1) (a .0 .name) (a .0 .now)
       (a .1 .0) (a .1 .1 .0 .ptr .0) (a .1 .1 .0 .ptr .1) (a .1 .1 .0 .name) (a .1 .1 .0 .now) (a .1 .1 .1 .0)
@@ -551,9 +567,16 @@ meets : {M : Type 1} (𝓤 : URA M) (H : Heap 𝓤) (A : Atoms 𝓤) (W : Given 
     → Triple 𝓤 (𝓣 .C #requests·plan-call) (PlanCall 𝓤 H A mem run)
     → Meets 𝓤 H A f.signature (WpFn 𝓤 H (𝓣 .C) (𝓣 .Λ) code.function) (f.spec 𝓤 H A mem run)
 meets 𝓤 H A W mem run 𝓣 k₁ k₂ =
-    walk-meets 𝓤 H A f.ended stayed W (goes-none-slice 𝓤 H A W 2 (0 ∷ []) tt (plain (λ _. R)) yes,
-    (goes-none 𝓤 H A W 2 (λ _. usize) yes (λ κs x f. refl), (goes-gave-ref 𝓤 H A W 2 1 tt (plain (λ _. State)),
-    (goes-none 𝓤 H A W 2 (λ _. K.the-row) yes (λ κs x f. refl), tt)))) (f.clauses 𝓤 H A mem run)
+    walk-meets 𝓤 H A f.ended stayed W (
+      goes-none-slice 𝓤 H A W 2 (0 ∷ []) tt (plain (λ _. R)) yes,
+      (
+        goes-none 𝓤 H A W 2 (λ _. usize) yes (λ κs x f. refl),
+        (
+          goes-gave-ref 𝓤 H A W 2 1 tt (plain (λ _. State)),
+          (goes-none 𝓤 H A W 2 (λ _. K.the-row) yes (λ κs x f. refl), tt),
+        ),
+      ),
+    ) (f.clauses 𝓤 H A mem run)
     (WpFn 𝓤 H (𝓣 .C) (𝓣 .Λ) code.function) (WpFn-mono 𝓤 H (W .laws) 𝓣 code.function) (walks 𝓤 H A W mem run 𝓣 k₁ k₂)
 
 pub judge-spec : {M : Type 1} → stated.statement M

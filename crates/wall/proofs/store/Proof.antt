@@ -57,7 +57,6 @@ R = T.the-row
 abbrev stayed : Stays (f.ended .signature .params) (f.ended .kept)
 stayed = (stay-slice (0 ∷ []) tt (plain (λ _. R)), (stay-none (λ _. usize) yes, (stay-none (λ _. R) yes, tt)))
 
-
 abbrev rest : Body
 rest = seq (assign (place 0 []) (rvOpd opdUnit)) return
 
