@@ -8,6 +8,7 @@ mod calls;
 mod messages;
 mod parts;
 mod refusal;
+mod replies;
 mod versions;
 mod whole;
 

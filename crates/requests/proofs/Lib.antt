@@ -1,8 +1,9 @@
-pub mod OpenFences
-pub mod Walks
-pub mod Marks
-pub mod Fences
-pub mod Plans
+pub mod Asked
 pub mod Carried
-pub mod Words
+pub mod Fences
+pub mod Marks
+pub mod OpenFences
+pub mod Plans
 pub mod Signs
+pub mod Walks
+pub mod Words
