@@ -1,3 +1,4 @@
 pub mod Example
 pub mod Inputs
+pub mod Walls
 pub mod Table

@@ -20,9 +20,13 @@ use Rattle.firmware.specs.Css
 use Rattle.firmware.specs.Cpd
 use Rattle.firmware.specs.Inside.{hucNumber, manifestNumber}
 use Rattle.firmware.specs.Version.{hucReading, manifestReading, reading}
+use Rattle.requests.specs.Fence.{age, signed, after, firstClosed, nextFence}
+use Rattle.requests.specs.Table.{isOpen, hasFence, stillOpen, fenceTwice, allowedLength, usable, lowestFree, placeOf}
+use Rattle.requests.specs.Calls
 use Rattle.examples.specs.Example.{Each}
+use Rattle.examples.specs.Walls.{walls}
 use Rattle.examples.specs.Inputs
-use Rattle.examples.specs.Table.{Examples, table, freshChannel, once, twice, thrice, full, stores, around}
+use Rattle.examples.specs.Table.{table, freshChannel, once, twice, thrice, full, stores, around}
 use Rattle.examples.proofs.worked_examples.Statement.{statement}
 use Rattle.examples.proofs.worked_examples.Tie as tie
 
@@ -31,7 +35,7 @@ infixr 5 _&_
 abbrev _&_ : {A B : Type 0} → A → B → A × B
 _&_ row rows = (row, rows)
 
-examples : Examples
+examples : Each table
 unfolding
     Each table freshChannel once twice thrice full stores around
     Inputs.countUp Inputs.dwords Inputs.descriptorWith Inputs.buffer Inputs.bufferOf Inputs.bufferWith
@@ -64,8 +68,21 @@ examples =
     & refl & refl & refl
     & tt
 
+of-walls : Each walls
+unfolding
+    Each walls typeOf need age signed after firstClosed nextFence isOpen hasFence stillOpen fenceTwice allowedLength usable
+    lowestFree placeOf Calls.refused Calls.freshNumber Calls.freshBy Calls.openNumber Calls.openBy Calls.isReply Calls.replyNumber
+    Calls.counted Calls.countAfter Calls.recordAfter Calls.answerOf Calls.replyAt Calls.replyBy Calls.reply
+of-walls =
+    refl & refl & refl
+    & refl & refl & refl & refl & refl & refl
+    & refl & refl & refl & refl & refl & refl
+    & refl & refl & refl & refl & refl & refl & refl
+    & refl & refl
+    & tt
+
 returns : tie.Need-returns
-returns c = examples
+returns c = (examples, of-walls)
 
 pub worked-examples-spec : {M : Type 1} → statement M
 worked-examples-spec = tie.close (tie.spec returns)
