@@ -100,7 +100,7 @@ static uint32_t (*const guc_interface_linked)(void) GUC_KEPT = guc_interface_2;
 	X(GUC_DUPLICATE_ENTRY, 22, "more than one entry has that name") \
 	X(GUC_TABLE_FULL, 26, "every record of the table is open") \
 	X(GUC_NO_REQUEST, 27, "no open request has that fence, or the message is no reply") \
-	X(GUC_BAD_TABLE, 35, "a table has 1 to 256 records, and no fence is open twice in it") \
+	X(GUC_BAD_TABLE, 35, "a table has 1 to 256 records, no two open with one fence") \
 	X(GUC_NO_ROOM, 100, "the destination is too short") \
 	X(GUC_NO_SUCH, 101, "no such type or component")
 

@@ -5,3 +5,4 @@ pub mod Receives
 pub mod Lowest
 pub mod Rows
 pub mod Files
+pub mod Walls

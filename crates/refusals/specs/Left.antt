@@ -1,5 +1,5 @@
--- What a refusal of an operation or an opening leaves: document 01's column 'Leaves', and the sentences beside its
--- table.
+-- What a refusal of an operation, of an opening or of a wall's call leaves: document 01's column 'Leaves', and the
+-- sentences beside its table.
 use Prim.Native.Nat.{ℕ, _+_, _%_}
 use mathlib.Core.Path.{_≡_}
 use mathlib.Core.Bool.{cond}
@@ -13,6 +13,8 @@ use Rattle.channel.specs.Outcome.{Outcome}
 use Rattle.channel.specs.Opening.{Opening}
 use Rattle.channel.specs.Operations.{Op, sendLook, sendMove, sendPublish, sendWhole}
 use Rattle.channel.specs.Operations.{receiveLook, receiveMove, receivePublish, receiveWhole}
+use Rattle.requests.specs.Calls
+use Rattle.requests.specs.declared.record.Record.{Record}
 
 -- the column 'Leaves', of the descriptor: 7 'STATUS = 1', 8 'STATUS = 4', 9 'STATUS = 2', 13 'HEAD moved', to the
 -- offset past the message, else 'all'
@@ -68,6 +70,16 @@ pub record OpeningRefused (d b : List ℕ) (x : Opening) : Type 0 where
   pub buffer : x .buf ≡ b
   pub sender : x .sender ≡ idleAt 0 0
   pub receiver : x .receiver ≡ idleAt 0 0
+
+-- a refused call of a wall: 27 'changes nothing', and neither do the others, by the column's 'all'. No figure is
+-- answered
+pub record WallRefused (t : List Record) (last : ℕ) (x : Calls.Outcome) : Type 0 where
+  pub table : x .table ≡ t
+  pub last-fence : x .last ≡ last
+  pub no-kind : x .answer .kind ≡ 0
+  pub no-fence : x .answer .fence ≡ 0
+  pub no-action : x .answer .action ≡ 0
+  pub no-count : x .answer .count ≡ 0
 
 -- ---- reserved words
 

@@ -6,8 +6,8 @@ use mathlib.Core.Path.{_≡_}
 use mathlib.Core.Logic.{_↔_}
 use mathlib.Core.Bool.{false}
 use mathlib.Core.List.{List, [], _∷_, _++_}
-use mathlib.Core.Option.{none}
-use Rattle.message.specs.Packing.{packAnswer, unpackAnswer}
+use mathlib.Core.Option.{none, some}
+use Rattle.message.specs.Packing.{packAnswer, unpack, unpackAnswer}
 use Rattle.message.specs.declared.Message.{Message}
 use Rattle.channel.specs.State.{State, idleAt}
 use Rattle.channel.specs.Opening.{opening}
@@ -20,18 +20,21 @@ use Rattle.firmware.specs.Figures.{imageFigures, directoryFigures, entryFigures
 use Rattle.firmware.specs.declared.bytes.Located.{Located}
 use Rattle.firmware.specs.declared.css.Component.{Component}
 use Rattle.firmware.specs.declared.figures.Figures.{Figures}
+use Rattle.requests.specs.Calls.{fresh, calling, asksOpening, asksReply}
+use Rattle.requests.specs.declared.record.Record.{Record}
 use Rattle.refusals.specs.Order.{Row, Answered, AllPass}
 use Rattle.refusals.specs.Table.{fits, row-4, row-14-fields, openingRows, operationRows}
 use Rattle.refusals.specs.Table.{imageRows, directoryRows, seekTests, entryRows, manifestRows}
-use Rattle.refusals.specs.Left.{OperationRefused, OpeningRefused, ReservedStay}
+use Rattle.refusals.specs.Table.{row-35-length, openRequestTests, replyMessageTests, replyDwordsTests}
+use Rattle.refusals.specs.Left.{OperationRefused, OpeningRefused, WallRefused, ReservedStay}
 
 -- ---- the calls that the paper names, and ours beside them, with all that each is given
 
 -- With each stand the functions whose contracts cite its definition. Functions that a crate only lends to those above
--- it (the decisions of `ring` and `channel`, and whole calls at once) are held to the chains themselves. `guc` has
--- these calls under C's names, and what it refuses beyond them (100, 101, an origin that is no bit, and a field that a
--- type does not have) is in guc/specs. `side`'s calls for all the moves that are left stand for moves, and their numbers
--- are in delivery/specs/HalfWhole.
+-- it (the decisions of `ring` and `channel`, whole calls at once, and the plans of `requests`) are held to the chains
+-- themselves. `guc` has these calls under C's names, and what it refuses beyond them (100, 101, an origin that is no
+-- bit, and a field that a type does not have) is in guc/specs. `side`'s calls for all the moves that are left stand for
+-- moves, and their numbers are in delivery/specs/HalfWhole.
 pub data PublicCall : Type 0 where
   -- channel::open_channel, side::open_channel
   openCall : List ℕ → List ℕ → PublicCall
@@ -65,6 +68,14 @@ pub data PublicCall : Type 0 where
   entryFiguresCall : List ℕ → ℕ → PublicCall
   manifestFiguresCall : List ℕ → PublicCall
   hucFiguresCall : List ℕ → PublicCall
+  -- a wall's calls, with its table and its last fence. Making a table fresh: wall::fresh (guc_wall_fresh)
+  freshCall : List Record → ℕ → PublicCall
+  -- an opening of an action: requests::open with wall::call (guc_wall_open)
+  openRequestCall : List Record → ℕ → ℕ → PublicCall
+  -- a reply, decoded: requests::reply with wall::call; and by its dwords: requests::received with wall::call
+  -- (guc_wall_reply). requests::age answers no number
+  replyMessageCall : List Record → ℕ → Message → PublicCall
+  replyDwordsCall : List Record → ℕ → List ℕ → PublicCall
 
 -- the number that a call answers, by the definition that its contract cites
 abbrev pub numberOf : PublicCall → ℕ
@@ -88,6 +99,10 @@ numberOf (directoryFiguresCall blob) = directoryFigures blob .code
 numberOf (entryFiguresCall blob i) = entryFigures blob i .code
 numberOf (manifestFiguresCall blob) = manifestFigures blob .code
 numberOf (hucFiguresCall blob) = hucFigures blob .code
+numberOf (freshCall t last) = fresh t last .answer .code
+numberOf (openRequestCall t last action) = calling t last (asksOpening action) .answer .code
+numberOf (replyMessageCall t last m) = calling t last (asksReply (some m)) .answer .code
+numberOf (replyDwordsCall t last dwords) = calling t last (asksReply (unpack dwords)) .answer .code
 
 -- 'a part inside a directory is judged only after the directory's own numbers, 14 to 21, have passed', 22 among them
 -- since T-03: 'The manifest and CSS readings inside a directory pass 22 on and promise it.'
@@ -120,6 +135,10 @@ tests (directoryFiguresCall blob) = directoryRows blob ∷ []
 tests (entryFiguresCall blob i) = entryRows blob i ∷ []
 tests (manifestFiguresCall blob) = manifestTests blob
 tests (hucFiguresCall blob) = hucTests blob
+tests (freshCall t last) = (row-35-length t ∷ []) ∷ []
+tests (openRequestCall t last action) = openRequestTests t
+tests (replyMessageCall t last m) = replyMessageTests t m
+tests (replyDwordsCall t last dwords) = replyDwordsTests t dwords
 
 -- ---- what a refused call leaves and gives
 
@@ -159,6 +178,11 @@ LeftBy (directoryFiguresCall blob) = FiguresRefused (directoryFigures blob)
 LeftBy (entryFiguresCall blob i) = FiguresRefused (entryFigures blob i)
 LeftBy (manifestFiguresCall blob) = FiguresRefused (manifestFigures blob)
 LeftBy (hucFiguresCall blob) = FiguresRefused (hucFigures blob)
+-- table and last fence stay, and no figure is answered
+LeftBy (freshCall t last) = WallRefused t last (fresh t last)
+LeftBy (openRequestCall t last action) = WallRefused t last (calling t last (asksOpening action))
+LeftBy (replyMessageCall t last m) = WallRefused t last (calling t last (asksReply (some m)))
+LeftBy (replyDwordsCall t last dwords) = WallRefused t last (calling t last (asksReply (unpack dwords)))
 
 -- ---- the demand
 

@@ -4,7 +4,7 @@ use crate::print::one;
 use crate::print::piece;
 use crate::print::text;
 
-// The sentence for a number, 1 to 22; nothing for another.
+// The sentence for a number, 1 to 22, 26, 27 and 35; nothing for another.
 pub fn sentence(code: u32) {
     line(
         b"\n\
@@ -29,7 +29,12 @@ pub fn sentence(code: u32) {
           the directory's entries lie beyond its end\n\
           no entry has that name\n\
           the entry's part lies beyond the directory's end\n\
-          more than one entry has that name\n",
+          more than one entry has that name\n\
+          \n\n\n\
+          every record of the table is open\n\
+          no open request has that fence, or the message is no reply\n\
+          \n\n\n\n\n\n\n\
+          a table has 1 to 256 records, no two open with one fence\n",
         code as usize,
     );
 }

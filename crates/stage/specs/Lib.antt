@@ -2,3 +2,4 @@ pub mod Dwords
 pub mod Channels
 pub mod Files
 pub mod Messages
+pub mod Walls

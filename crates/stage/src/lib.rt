@@ -1,9 +1,10 @@
-// What programs build their scenes with: a channel with both its sides, messages to send, outputs to receive in,
-// firmware files laid byte by byte, and comparisons. Each is held to a definition, once, here.
+// What programs build their scenes with: a channel with both its sides, a wall of players, messages to send, outputs to
+// receive in, firmware files laid byte by byte, and comparisons. Each is held to a definition, once, here.
 mod channels;
 mod dwords;
 mod files;
 mod messages;
+mod walls;
 
 pub use channels::Ctb;
 pub use channels::Done;
@@ -38,3 +39,10 @@ pub use messages::fast_request;
 pub use messages::message_in;
 pub use messages::request;
 pub use messages::untouched;
+pub use walls::Aged;
+pub use walls::Called;
+pub use walls::PLAYERS;
+pub use walls::Wall;
+pub use walls::age_of;
+pub use walls::fresh_wall;
+pub use walls::wall_call;

@@ -1,3 +1,4 @@
+pub mod Cells
 pub mod Freed
 pub mod Records
 pub mod Shared

@@ -4,8 +4,10 @@ use Prim.Native.Nat.{ℕ, zero, suc}
 use mathlib.Core.Path.{_≡_, refl, _∙_}
 use mathlib.Core.Bool.{true, false}
 use mathlib.Core.List.{List}
+use mathlib.Core.Option.{some}
 use lib.Dec.{eqb·zero-suc}
 use borrow.Author.Tests.{ne-eqb}
+use Rattle.message.specs.Packing.{unpack}
 use Rattle.channel.specs.State.{State, idleAt, madeFor, idle, activeSend, activeReceive}
 use Rattle.channel.specs.Opening.{openBy}
 use Rattle.channel.specs.Operations.{Op, sendLook, sendMove, sendPublish, sendWhole}
@@ -26,6 +28,7 @@ use Rattle.refusals.specs.Refusals.{imageVersionCall, manifestVersionCal
 use Rattle.refusals.specs.Refusals.{directoryFiguresCall, entryFiguresCall, hucFiguresCall, imageFiguresCall}
 use Rattle.refusals.specs.Refusals.{manifestFiguresCall}
 use Rattle.refusals.specs.Refusals.{openCall, operationCall, packCall, tests, unpackCall}
+use Rattle.refusals.specs.Refusals.{freshCall, openRequestCall, replyDwordsCall, replyMessageCall}
 use Rattle.refusals.proofs.Sends.{send-look, send-move, send-publish, send-whole}
 use Rattle.refusals.proofs.Receives.{opening-refused, receive-look, receive-move, receive-publish, receive-whole}
 use Rattle.refusals.proofs.Lowest.{accepts, allRise, exactly, firstJudged, firstOf, rising}
@@ -34,6 +37,8 @@ use Rattle.refusals.proofs.Rows.{receives-whole, send-looks, send-moves
 use Rattle.refusals.proofs.Files.{alone, directory-number, entry-number, huc-number}
 use Rattle.refusals.proofs.Files.{image-number, location-refused, manifest-number, packs}
 use Rattle.refusals.proofs.Files.{reading-refused, refused-nothing, seek-number, unpacks}
+use Rattle.refusals.proofs.Walls.{fresh-number, fresh-refused, open-number, open-refused}
+use Rattle.refusals.proofs.Walls.{received-number, reply-number, reply-refused}
 use Rattle.refusals.proofs.demand_1.Statement.{statement}
 use Rattle.refusals.proofs.demand_1.Tie as tie
 
@@ -117,6 +122,10 @@ rise (directoryFiguresCall blob) = refl
 rise (entryFiguresCall blob i) = refl
 rise (manifestFiguresCall blob) = refl
 rise (hucFiguresCall blob) = refl
+rise (freshCall t last) = refl
+rise (openRequestCall t last action) = refl
+rise (replyMessageCall t last m) = refl
+rise (replyDwordsCall t last dwords) = refl
 
 number : (x : PublicCall) → numberOf x ≡ firstJudged (tests x)
 unfolding openBy Cpd.entriesOf cssReading hucReading manifestReading reading
@@ -140,6 +149,10 @@ number (directoryFiguresCall blob) = directory-code blob ∙ directory-number bl
 number (entryFiguresCall blob i) = entry-code blob i ∙ entry-number blob i ∙ alone _
 number (manifestFiguresCall blob) = manifest-code blob ∙ manifest-number blob
 number (hucFiguresCall blob) = huc-code blob ∙ huc-number blob
+number (freshCall t last) = fresh-number t last
+number (openRequestCall t last action) = open-number t last action
+number (replyMessageCall t last m) = reply-number t last m
+number (replyDwordsCall t last dwords) = received-number t dwords last
 
 left : (x : PublicCall) → (numberOf x ≡ 0 → ⊥) → LeftBy x
 unfolding LeftBy Cpd.entriesOf cssReading hucReading manifestReading
@@ -166,6 +179,10 @@ left (directoryFiguresCall blob) z = directory-missing blob .missing z
 left (entryFiguresCall blob i) z = entry-missing blob i .missing z
 left (manifestFiguresCall blob) z = manifest-missing blob .missing z
 left (hucFiguresCall blob) z = huc-missing blob .missing z
+left (freshCall t last) z = fresh-refused t last z
+left (openRequestCall t last action) z = open-refused t last action z
+left (replyMessageCall t last m) z = reply-refused t last (some m) z
+left (replyDwordsCall t last dwords) z = reply-refused t last (unpack dwords) z
 
 demand1 : Demand1
 unfolding openBy
