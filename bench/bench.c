@@ -11,6 +11,7 @@
 size_t N, L;
 struct way *ways;
 struct reader *readers;
+struct keeper *keepers;
 static const char *whats = "", *hows = "";
 enum { ROWS = 1000 };
 static struct row rows[ROWS];
@@ -34,6 +35,12 @@ void enlist_reader(struct reader *r)
     struct reader **end = &readers;
     while (*end) end = &(*end)->next;
     *end = r;
+}
+void enlist_keeper(struct keeper *w)
+{
+    struct keeper **end = &keepers;
+    while (*end) end = &(*end)->next;
+    *end = w;
 }
 
 static int in_list(const char *list, const char *word)
@@ -130,8 +137,10 @@ int main(int argc, char **argv)
     if (argc > 3) hows = argv[3];
     add_channel_rows();
     add_firmware_rows();
+    add_wall_rows();
     if (!time) { count_rows(); return 0; }
     check_ways();
+    check_walls();
     settled(time_rows);
     say_times();
     return 0;

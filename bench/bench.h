@@ -1,4 +1,5 @@
-// What the files of the benchmark share: ways to send and to receive, readers of firmware, rows, and the memory they all run on.
+// What the files of the benchmark share: ways to send and to receive, readers of firmware, keepers of a wall, rows, and the memory they
+// all run on.
 #ifndef BENCH_H
 #define BENCH_H
 #include "baseline.h"
@@ -34,14 +35,23 @@ struct way {
 // A reader of firmware images and directories, by the rows of firmware.c.
 enum { JUDGE, LOCATE, COPY, FEW, MANY, ALIKE, READS };
 struct reader { const char *name; block read[READS]; struct reader *next; };
+// A keeper of a wall of requests: a row's openings and busy replies at a table of L records, and one call at so many of them.
+struct keeper {
+    const char *name;
+    block open, reply;
+    struct told (*open_one)(size_t records, uint16_t action), (*reply_one)(size_t records, const uint32_t *msg, size_t len);
+    struct keeper *next;
+};
 
-// Ways and readers enlist themselves before main, so that what is linked is what is measured.
+// Ways, readers and keepers enlist themselves before main, so that what is linked is what is measured.
 extern struct way *ways;
 extern struct reader *readers;
+extern struct keeper *keepers;
 void enlist(struct way *w);
 void enlist_reader(struct reader *r);
+void enlist_keeper(struct keeper *w);
 
-// A row of one way or reader: k calls a block in time, counted calls for the instruction counter.
+// A row of one way, reader or keeper: k calls a block in time, counted calls for the instruction counter.
 struct row {
     const char *what, *name;
     size_t n, l, k, counted;
@@ -53,7 +63,9 @@ struct row {
 void add_row(struct row r); // unless it is not asked for
 void add_channel_rows(void);
 void add_firmware_rows(void);
+void add_wall_rows(void);
 void check_ways(void); // every message that each way sends and receives, compared
+void check_walls(void); // the same calls by every keeper, compared
 
 int asked(const char *what, const char *name);
 void die(const char *what, const char *name, uint32_t code);

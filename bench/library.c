@@ -1,7 +1,8 @@
-// The library's ways to send and to receive, and its reader: compiled once for each archive, which is WHO, and linked with it alone.
+// The library's ways to send and to receive, its reader and its wall: compiled once for each archive, which is WHO, and linked with it alone.
 #include "blocks.h"
 #include "firmware.h"
 #include "guc.h"
+#include "wall.h"
 #ifndef WHO
 #define WHO "guc"
 #endif
@@ -125,9 +126,18 @@ READ_BLOCK(judge_block, judge()) READ_BLOCK(locate_block, locate()) READ_BLOCK(c
 READ_BLOCK(few_block, find(&few)) READ_BLOCK(many_block, find(&many)) READ_BLOCK(alike_block, find(&alike))
 static struct reader library_reader = {WHO ":reader", {judge_block, locate_block, copy_block, few_block, many_block, alike_block}, 0};
 
+#define WALL ((struct guc_wall *)&requests.last)
+#define TABLE ((struct guc_record *)requests.table)
+static struct told told(struct guc_wall_answer a) { return (struct told){a.code, a.kind, a.fence, a.action, a.count}; }
+static struct told open_one(size_t records, uint16_t action) { return told(guc_wall_open(WALL, TABLE, records, action)); }
+static struct told reply_one(size_t records, const uint32_t *m, size_t len) { return told(guc_wall_reply(WALL, TABLE, records, m, len)); }
+WALL_BLOCKS(open_one, reply_one)
+static struct keeper library_keeper = {WHO ":wall", open_block, reply_block, open_one, reply_one, 0};
+
 __attribute__((constructor)) static void enlist_library(void)
 {
     for (size_t i = 0; i < sizeof library_ways / sizeof *library_ways; i++) enlist(library_ways + i);
     enlist(&all_way);
     enlist_reader(&library_reader);
+    enlist_keeper(&library_keeper);
 }

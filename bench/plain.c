@@ -1,7 +1,9 @@
-// The plain C's ways to send and to receive, and its reader: compiled once for each way of compiling it, which is WHO, and linked with it alone.
+// The plain C's ways to send and to receive, its reader and its wall: compiled once for each way of compiling it, which is WHO, and
+// linked with it alone.
 #include "baseline.h"
 #include "blocks.h"
 #include "firmware.h"
+#include "wall.h"
 #ifndef WHO
 #define WHO "plain"
 #endif
@@ -44,8 +46,14 @@ READ_BLOCK(few_block, find(&few)) READ_BLOCK(many_block, find(&many)) READ_BLOCK
 // Judging and finding are one pass for it.
 static struct reader plain_reader = {WHO ":reader", {locate_block, locate_block, copy_block, few_block, many_block, alike_block}, 0};
 
+static struct told open_one(size_t records, uint16_t action) { return wall_open(&requests.last, requests.table, records, action); }
+static struct told reply_one(size_t records, const uint32_t *m, size_t len) { return wall_reply(requests.table, records, m, len); }
+WALL_BLOCKS(open_one, reply_one)
+static struct keeper plain_keeper = {WHO ":wall", open_block, reply_block, open_one, reply_one, 0};
+
 __attribute__((constructor)) static void enlist_plain(void)
 {
     for (size_t i = 0; i < sizeof plain_ways / sizeof *plain_ways; i++) enlist(plain_ways + i);
     enlist_reader(&plain_reader);
+    enlist_keeper(&plain_keeper);
 }

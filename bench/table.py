@@ -2,13 +2,14 @@
 import re
 import sys
 
-SIZES, LENGTHS = (1024, 16384), (2, 16, 256)
+SIZES, LENGTHS, RECORDS = (1024, 16384), (2, 16, 256), (16, 256)
 WORDS = {'send': 'send', 'receive': 'receive', 'turn': 'send, then receive', 'straight': '%s, straight',
          'around': '%s, around the end', 'one_left': '%s, one place left before the end',
          'judge': 'image: judge, find uCode (two calls)',
          'locate': 'image: find uCode (one call)', 'image': 'image: copy uCode out',
          'few': 'directory: find the last of 16 entries', 'many': 'directory: find the last of 4,096 entries',
-         'alike': 'directory: the same, names alike in eleven bytes'}
+         'alike': 'directory: the same, names alike in eleven bytes',
+         'wall_open': 'wall of %d: open a request', 'wall_reply': 'wall of %d: a busy reply'}
 # Columns of the table of one archive, and the row of the table of all: who, and beside which plain C.
 COLUMNS = [('guc:two', 'two words'), ('guc:words', '260 words'), ('inl:wrap', '(a)'), ('lib:wrap', '(a) call'),
            ('inl:runs', '(b)'), ('lib:runs', '(b) call'), ('lib:plain', '(c)')]
@@ -18,6 +19,8 @@ PLAIN = {'lib': '(b) call', 'moves': '(b) call, no SSE', 'rep': '(b) call, no SS
 # At most so many instructions: of the two-word side and of the 260-word side as a multiple of (b) call's, of a dword stored and a dword
 # copied in steps.
 LIMITS = {'libguc': (2.15, 3.7, 80, 57), 'fast': (1.4, 3.0, 80, 57), 'v3': (1.4, 2.0, 80, 57), 'kernel-moves': (1.2, 2.8, 80, 57)}
+# Of a wall's calls of any archive: an opening and a reply as a multiple of plain C's, a reply at 256 records as one of a reply at 16.
+WALL_LIMITS = 2, 20
 counts, times = {}, {}
 
 
@@ -51,13 +54,34 @@ def row(what, n, l, label, names):
     line(label, n or '-', l or '-', *(cell((what, n, l, name), base) for name in names))
 
 
+def wall_numbers(numbers, who, plain):
+    # The most of plain C's that an opening and a reply take, and how a reply grows.
+    most = [max(numbers[what, 0, l, who + ':wall'] / numbers[what, 0, l, plain + ':wall'] for l in RECORDS)
+            for what in ('wall_open', 'wall_reply')]
+    return *most, growth(numbers, who)
+
+
+def growth(numbers, who):
+    few, many = (numbers['wall_reply', 0, l, who + ':wall'] for l in RECORDS)
+    return many / few
+
+
+def wall_rows():
+    for what in ('wall_open', 'wall_reply'):
+        for l in RECORDS:
+            base = what, 0, l, 'lib:wall'
+            cells = [cell((what, 0, l, name), base) for name in ('guc:wall', 'inl:wall', 'lib:wall')]
+            line(WORDS[what] % l, '-', '-', '-', cells[0], '-', '-', *cells[1:], '-')
+
+
 def table():
     names = [name for name, _ in COLUMNS]
     print('Each cell: ns (ratio to "(b) call") instructions, for one message, image or search. two words, 260 words: the archive, by its side.')
     print('(a) C, a wrap test per dword; (b) C, at most two memcpy runs; (c) memcpy alone; call: no memcpy opened in place.')
     print('Rows that say where a message lies (straight, around the end) have every message there; in the rows above them the ring')
     print('goes round, and one message in a round passes its end.')
-    print('In the image and directory rows the plain C reader stands in the (b) columns.\n')
+    print('In the image, directory and wall rows the plain C that does the same stands in the (b) columns. A wall of so many records has all of')
+    print('them open, or all but the one that is opened.\n')
     line('what', 'N', 'dwords', *(title for _, title in COLUMNS))
     print('|---' * (3 + len(COLUMNS)) + '|')
     for what in ('send', 'receive', 'turn'):
@@ -77,10 +101,12 @@ def table():
                 row(what + '_' + place, n, 256, WORDS[place] % what, names)
     for what in ('judge', 'locate', 'image', 'few', 'many', 'alike'):
         row(what, 0, 0, WORDS[what], ['-', 'guc:reader', '-', '-', 'inl:reader', 'lib:reader', '-'])
+    wall_rows()
     print()
     for what, words in (('store', 'stored'), ('copy', 'copied')):
         key = what, 1024, 16, 'guc:steps'
         print('One dword %s in steps: %.1f ns, %.1f instructions.' % (words, times[key], counts[key]))
+    print('A reply at 256 records takes %.1f times the time of one at 16, plain C\'s %.1f times.' % (growth(times, 'guc'), growth(times, 'lib')))
 
 
 def whole_calls(n):
@@ -114,6 +140,14 @@ def all_archives():
         if ('store', 1024, 16, who + ':steps') in times:
             steps = ['%.1f %.1f' % (times[key], counts[key]) for key in ((what, 1024, 16, who + ':steps') for what in ('store', 'copy'))]
             line(archive, *steps, cell(('few', 0, 0, who + ':reader'), ('few', 0, 0, plain + ':reader')))
+    print('\nA wall of 16 and of 256 records (ratio to plain C in the same run), and a reply at 256 against one at 16:\n')
+    line('archive', *('%s %d' % (what, l) for what in ('open', 'reply') for l in RECORDS), 'reply 256 / 16')
+    print('|---' * 6 + '|')
+    for who, archive, plain in ARCHIVES:
+        if ('wall_reply', 0, 16, who + ':wall') in times:
+            cells = [cell((what, 0, l, who + ':wall'), (what, 0, l, plain + ':wall'))
+                     for what in ('wall_open', 'wall_reply') for l in RECORDS]
+            line(archive, *cells, '%.1f' % growth(times, who))
 
 
 def check():
@@ -128,8 +162,21 @@ def check():
         if any(number > limit for number, limit in zip(found, LIMITS[who])):
             above.append('%s: at most %.2f, %.2f, %d and %d' % (archive, *LIMITS[who]))
     print('bench: instructions of two words and of 260 against (b) call, and a dword stored and copied: %s' % '; '.join(said))
+    above += check_walls()
     if above:
         sys.exit('bench: too many. ' + '; '.join(above))
+
+
+def check_walls():
+    said, above = [], []
+    for who, archive, plain in ARCHIVES:
+        if ('wall_reply', 0, 16, who + ':wall') in counts:
+            found = wall_numbers(counts, who, plain)
+            said.append('%s %.2f, %.2f and %.1f' % (archive, *found))
+            if max(found[:2]) > WALL_LIMITS[0] or found[2] > WALL_LIMITS[1]:
+                above.append('%s: of a wall at most %d, %d and %d' % (archive, WALL_LIMITS[0], *WALL_LIMITS))
+    print('bench: instructions of a wall\'s opening and reply against plain C, and of a reply at 256 records against 16: %s' % '; '.join(said))
+    return above
 
 
 mode = sys.argv[1]

@@ -61,6 +61,7 @@ void kmain(void)
 	traffic(&stepped_calls, LARGE_RING, 10000);
 	refused_calls();
 	firmware_calls();
+	wall_calls();
 	EXPECT(ticks_inside >= ENOUGH && steps_inside >= ENOUGH);
 	say_result();
 	machine_stop(wrong == 0);

@@ -1,6 +1,6 @@
 /*
- * The scenes: messages through a channel by one kind of calls, and calls that
- * must be refused.
+ * The scenes: messages through a channel by one kind of calls, calls that must be
+ * refused, firmware, and a wall of requests.
  */
 #ifndef SCENES_H
 #define SCENES_H
@@ -29,5 +29,6 @@ void traffic(const struct kind *kind, uint32_t n, uint32_t messages);
 
 void refused_calls(void);
 void firmware_calls(void);
+void wall_calls(void);
 
 #endif /* SCENES_H */

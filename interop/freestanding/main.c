@@ -1,5 +1,6 @@
 // A program with no C library at all, linked with libguc.a: two channels that another processor could read and write meanwhile
-// (guc_live.h), one with two-word sides and whole calls, one in steps. It prints what came back. x86-64 Linux; see docs/INTEGRATION.md.
+// (guc_live.h), one with two-word sides and whole calls, one in steps; and a wall of requests whose replies come out of order. It prints
+// what came back. x86-64 Linux; see docs/INTEGRATION.md.
 #include "guc_live.h"
 
 enum { N = 1024, WRITE = 1, EXIT = 60 };
@@ -27,7 +28,7 @@ static long syscall3(long number, long a, long b, long c)
     return r;
 }
 
-static char line[512];
+static char line[1024];
 static size_t filled;
 static void put(const char *s) { while (*s && filled < sizeof line) line[filled++] = *s++; }
 static void put_number(uint32_t x)
@@ -91,10 +92,46 @@ static void steps(void)
     put("\n");
 }
 
+// A reply of the GuC, which has fence and type, and what the wall says of it.
+static void put_reply(struct guc_wall *w, struct guc_record *table, uint32_t fence, uint32_t type)
+{
+    const uint32_t reply[2] = {fence << 16 | 1, 0x80000000 | type << 28};
+    struct guc_wall_answer a = guc_wall_reply(w, table, 3, reply, 2);
+    put_answer(", reply ", a.code);
+    if (a.code) return;
+    put_answer(" kind ", a.kind);
+    put_answer(" action ", a.action);
+    put_answer(" count ", a.count);
+}
+
+static void wall(void)
+{
+    static struct guc_wall w;
+    static struct guc_record table[3];
+    put_answer("fresh ", guc_wall_fresh(&w, table, 3));
+    for (uint16_t action = 11; action <= 44; action += 11) {
+        struct guc_wall_answer a = guc_wall_open(&w, table, 3, action);
+        put_answer(", open ", a.code);
+        if (!a.code) put_answer(" fence ", a.fence);
+    }
+    put("\n");
+    put_answer("last ", w.last);
+    put_reply(&w, table, 2, GUC_TYPE_BUSY);
+    put_reply(&w, table, 1, GUC_TYPE_FAILURE);
+    put_reply(&w, table, 2, GUC_TYPE_SUCCESS);
+    put_reply(&w, table, 1, GUC_TYPE_SUCCESS); // a stray one: that request is closed
+    put_reply(&w, table, 0, GUC_TYPE_EVENT);
+    put_reply(&w, table, 0, GUC_TYPE_RETRY);
+    put_answer(", open fence ", guc_wall_open(&w, table, 3, 11).fence);
+    put_answer(", older by ", (uint32_t)-guc_wall_age(0, w.last));
+    put("\n");
+}
+
 __attribute__((used)) static void start(void)
 {
     whole();
     steps();
+    wall();
     long wrote = syscall3(WRITE, 1, (long)line, (long)filled);
     syscall3(EXIT, wrote == (long)filled ? 0 : 1, 0, 0);
     __builtin_unreachable();

@@ -124,6 +124,35 @@ static void blob(void)
 	expect(guc_huc_part(asked.blob, LENGTH, 1).code, GUC_OK, "image put back");
 }
 
+static struct guc_record table[2];
+static struct guc_wall last;
+
+static uint32_t reply_now(void)
+{
+	return guc_wall_reply(&last, table, 2, ch.msg, 2).code;
+}
+
+static void wall(void)
+{
+	ch.msg[0] = 1u << 16 | 1; /* fence 1, busy */
+	ch.msg[1] = 0x30000000u;
+	expect(guc_wall_fresh(&last, table, 2), GUC_OK, "table");
+	expect(reply_now(), GUC_NO_REQUEST, "reply to nothing");
+	expect(guc_wall_open(&last, table, 2, 7).code, GUC_OK, "opening");
+	expect(guc_wall_open(&last, table, 2, 8).code, GUC_OK, "second opening");
+	expect(reply_now(), GUC_OK, "reply");
+	table[0].fence = 1;
+	expect(reply_now(), GUC_BAD_TABLE, "record rewritten");
+	expect(guc_wall_open(&last, table, 2, 9).code, GUC_BAD_TABLE, "the same, opened");
+	table[0].fence = 0;
+	expect(guc_wall_open(&last, table, 2, 9).code, GUC_TABLE_FULL, "record put back, opened");
+	ch.msg[1] = 0x40000000u;
+	expect(reply_now(), GUC_BAD_MESSAGE, "reply rewritten");
+	ch.msg[1] = 0x70000000u;
+	expect(reply_now(), GUC_OK, "reply put back");
+	expect(reply_now(), GUC_NO_REQUEST, "reply after that");
+}
+
 unsigned long judged_afresh(void)
 {
 	message();
@@ -131,5 +160,6 @@ unsigned long judged_afresh(void)
 	ring();
 	lay_directory();
 	blob();
+	wall();
 	return wrong;
 }

@@ -12,7 +12,7 @@
 struct word {
 	volatile void *at;
 	unsigned bytes; /* 1, 4 or 8 */
-	unsigned unit;  /* bytes that a call reads at one moment: 1 or 4 */
+	unsigned unit;  /* bytes that a call reads at one moment: 1, 2 or 4 */
 	uint64_t face[2];
 };
 
@@ -27,7 +27,7 @@ struct scene {
 };
 
 /* Ends with a scene whose name is 0. */
-extern const struct scene send_scenes[], receive_scenes[], blob_scenes[];
+extern const struct scene send_scenes[], receive_scenes[], blob_scenes[], wall_scenes[];
 
 /* The scene that runs. */
 extern const struct scene *current;

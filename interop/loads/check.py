@@ -127,7 +127,9 @@ def loaded_wrongly(call, rules):
 
 def stored_wrongly(call, stores):
     """The same for each word that was stored to and may not be."""
-    written = [range(e.at, e.at + e.bytes) for e in call.events if e.store]
+    first = min((at for _, at, _ in call.lent), default=0)
+    behind = max((at + size for _, at, size in call.lent), default=0)
+    written = [range(e.at, e.at + e.bytes) for e in call.events if e.store and e.at < behind and first < e.at + e.bytes]
     for word, at, size in call.lent:
         touched = any(w.start < at + size and at < w.stop for w in written)
         if touched and not rule_for(call, word, stores).allowed:

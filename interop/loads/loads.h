@@ -28,6 +28,7 @@ void receive_calls(enum how how);
 void copy_calls(void);
 void half_calls(void);
 void step_calls(void);
+void wall_calls(void);
 void blob_calls(void);
 
 #endif /* LOADS_H */

@@ -57,6 +57,7 @@ int main(int argc, char **argv)
 	copy_calls();
 	half_calls();
 	step_calls();
+	wall_calls();
 	blob_calls();
 	return 0;
 }

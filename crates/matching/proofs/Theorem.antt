@@ -190,7 +190,7 @@ pub wallIsMap : WallIsMap
 wallIsMap =
     record {
       any-table =
-          λ t last g h list. (as-map (wall t last) list g, follows (end (wall t last) list) (end-good list (wall t last) g));
+          λ t last g list. (as-map (wall t last) list g, follows (end (wall t last) list) (end-good list (wall t last) g));
       fresh-table = fresh-wall;
       taken = usable-told;
     }

@@ -118,7 +118,7 @@ pub record FreshWall (t : List Record) (last : ℕ) (list : List Call) : Type 0 
 pub record WallIsMap : Type 0 where
   -- 'a lent table of 1 to 256 request records': from any, after every list
   pub any-table :
-      (t : List Record) (last : ℕ) → Good t → last < 65536 → (list : List Call)
+      (t : List Record) (last : ℕ) → Good t → (list : List Call)
       → AsMap (wall t last) (plainOf (wall t last)) list × Follows (end (wall t last) list)
   -- from a fresh one, after every list
   pub fresh-table :

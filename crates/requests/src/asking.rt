@@ -12,11 +12,11 @@ use ring::refusal::BAD_MESSAGE;
 
 // An opening of an action; or a reply: 0 with its HXG type and its fence, or the number that refuses it.
 pub struct Ask {
-    pub opening: bool,
-    pub action: u16,
-    pub code: u32,
-    pub kind: u32,
-    pub fence: u32,
+    pub(crate) opening: bool,
+    pub(crate) action: u16,
+    pub(crate) code: u32,
+    pub(crate) kind: u32,
+    pub(crate) fence: u32,
 }
 
 // Opens a request with this action. Nothing is sent.

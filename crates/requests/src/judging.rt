@@ -32,14 +32,14 @@ pub(crate) fn place_of(fence: u64, words: &[u64]) -> usize
 pub(crate) fn lowest_free(words: &[u64]) -> usize
     ensures { λ r. ⌜ r ≡ lowestFree (records (now (words .entry))) ⌝ }
 {
-    let mut i: usize = 0;
-    while i < words.len() {
-        if !is_open(words[i]) {
-            return i;
+    let mut place: usize = 0;
+    while place < words.len() {
+        if !is_open(words[place]) {
+            return place;
         }
-        i = i + 1;
+        place = place + 1;
     }
-    i
+    place
 }
 
 // Whether two open records have one fence. A fence is compared with those before it only where one of them has its low

@@ -131,13 +131,14 @@ fn answer_at(at: usize, kind: u32, r: Record) -> Plan
             },
         };
     }
+    let zero = 0;
     Plan {
         at,
         stored: Record {
-            is_open: 0,
-            fence: 0,
-            action: 0,
-            count: 0,
+            is_open: zero,
+            fence: zero,
+            action: zero,
+            count: zero,
         },
         answer: Answer {
             code: 0,

@@ -72,10 +72,10 @@ fn clear(t: &mut [Record], m: usize)
         action: 0,
         count: 0,
     };
-    let mut i: usize = 0;
-    while i < m {
-        t[i] = free;
-        i = i + 1;
+    let mut freed: usize = 0;
+    while freed < m {
+        t[freed] = free;
+        freed = freed + 1;
     }
 }
 

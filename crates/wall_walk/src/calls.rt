@@ -87,11 +87,7 @@ fn heard(w: Wall, what: &[u8], fence: u32, ask: Ask) -> Wall {
     }
     let kind = a.kind as usize;
     say::line(b"\n\n\n: busy\n\n: retry\n: failure\n: success\n", kind);
-    two(
-        b" for action %, answered busy %",
-        a.action as u64,
-        a.count as u64,
-    );
+    two(b" for action %, busy %", a.action as u64, a.count as u64);
     either(a.count == 1, b" time", b" times");
     say::line(
         b"\n\n\n; still open\n\n; closed, to be asked anew\n; closed\n; closed\n",

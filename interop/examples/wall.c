@@ -1,0 +1,79 @@
+/*
+ * The second worked example of docs/INTEGRATION.md: requests of a whole wall,
+ * each reply matched to its own. Below it stands a device, played by the same
+ * program, that answers out of order.
+ */
+#include "guc.h"
+
+#include <stdio.h>
+
+enum { RING = 1024, RECORDS = 16 };
+
+static struct guc_whole_sender sender, device_sender;
+static struct guc_whole_receiver receiver, device_receiver;
+static struct guc_descriptor to, from;
+static uint32_t to_ring[RING], from_ring[RING];
+static struct guc_wall wall;
+static struct guc_record table[RECORDS]; /* guc_wall_fresh(&wall, table, RECORDS) comes first */
+
+/* A request without payload: opened, and sent with the fence that it got. */
+static uint32_t ask(uint16_t action)
+{
+	struct guc_wall_answer a = guc_wall_open(&wall, table, RECORDS, action);
+	struct guc_packed two = guc_pack(GUC_ORIGIN_HOST, a.fence, 1, GUC_TYPE_REQUEST, 0, action);
+	uint32_t msg[2] = { two.header, two.word };
+
+	return a.code ? a.code : guc_whole_send(&sender, &to, to_ring, RING, msg, 2);
+}
+
+/* What was received, matched to the request that it answers. */
+static void matched(const uint32_t *msg, size_t len)
+{
+	struct guc_wall_answer a = guc_wall_reply(&wall, table, RECORDS, msg, len);
+
+	if (a.code)
+		printf("no reply of ours: %s\n", guc_strerror(a.code));
+	else
+		printf("action 0x%x: kind %u, busy %u\n", a.action, (unsigned)a.kind, a.count);
+}
+
+/* The device: takes all requests, and answers the last first, the first after two times busy. */
+static void answer(uint32_t fence, uint32_t type)
+{
+	struct guc_packed two = guc_pack(GUC_ORIGIN_GUC, fence, 1, type, 0, 0);
+	uint32_t msg[2] = { two.header, two.word };
+
+	if (guc_whole_send(&device_sender, &from, from_ring, RING, msg, 2))
+		printf("device: not sent\n");
+}
+
+static void device(void)
+{
+	uint32_t msg[GUC_MESSAGE_DWORDS], fences[RECORDS], n = 0;
+
+	while (guc_whole_receive(&device_receiver, &to, to_ring, RING, msg, GUC_MESSAGE_DWORDS).code == GUC_OK)
+		fences[n++] = msg[0] >> 16;
+	answer(fences[0], GUC_TYPE_BUSY);
+	while (n > 1)
+		answer(fences[--n], GUC_TYPE_SUCCESS);
+	answer(fences[0], GUC_TYPE_BUSY);
+	answer(fences[0], GUC_TYPE_RETRY);
+	answer(40000, GUC_TYPE_SUCCESS);
+}
+
+int main(void)
+{
+	uint32_t msg[GUC_MESSAGE_DWORDS];
+	struct guc_received got;
+
+	printf("open: %u\n", (unsigned)(guc_whole_open(&sender, &device_receiver, &to, to_ring, RING) |
+	    guc_whole_open(&device_sender, &receiver, &from, from_ring, RING)));
+	printf("fresh: %u\n", (unsigned)guc_wall_fresh(&wall, table, RECORDS));
+	for (uint16_t action = 0x501; action <= 0x503; action++)
+		printf("ask 0x%x: %u\n", action, (unsigned)ask(action));
+	device();
+	while ((got = guc_whole_receive(&receiver, &from, from_ring, RING, msg, GUC_MESSAGE_DWORDS)).code == GUC_OK)
+		matched(msg, got.len);
+	printf("age of fence 0: %d\n", (int)guc_wall_age(0, wall.last));
+	return 0;
+}

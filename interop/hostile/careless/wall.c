@@ -1,0 +1,91 @@
+/*
+ * Careless code of a wall, as careless.c is of the others: the table is walked
+ * again for each question, and the message is read again after it was judged.
+ */
+#include "hostile.h"
+
+/* Every read is a read. */
+static uint16_t get(const uint16_t *at)
+{
+	return *(const volatile uint16_t *)at;
+}
+
+static uint32_t dword(const uint32_t *at)
+{
+	return *(const volatile uint32_t *)at;
+}
+
+/* The first open record with this fence, from one on; or records. */
+static size_t find(const struct guc_record *table, size_t from, size_t records, uint16_t fence)
+{
+	for (; from < records; from++)
+		if (get(&table[from].open) && get(&table[from].fence) == fence)
+			break;
+	return from;
+}
+
+static uint32_t judge(const struct guc_record *table, size_t records)
+{
+	size_t k;
+
+	for (k = 0; k < records; k++)
+		if (get(&table[k].open) &&
+		    find(table, k + 1, records, get(&table[k].fence)) < records)
+			return GUC_BAD_TABLE;
+	return GUC_OK;
+}
+
+struct guc_wall_answer guc_wall_open(struct guc_wall *wall, struct guc_record *table,
+				     size_t records, uint16_t action)
+{
+	struct guc_wall_answer a = { judge(table, records), 0, 0, 0, 0 };
+	struct guc_record r = { 1, (uint16_t)(wall->last + 1), action, 0 };
+	size_t k;
+
+	for (k = 0; k < records && get(&table[k].open); k++)
+		;
+	if (a.code == GUC_OK && k == records)
+		a.code = GUC_TABLE_FULL;
+	if (a.code)
+		return a;
+	while (find(table, 0, records, r.fence) < records)
+		r.fence++;
+	table[k] = r;
+	a.fence = wall->last = r.fence;
+	return a;
+}
+
+static uint32_t judge_message(const uint32_t *msg, size_t len)
+{
+	if (!well_formed(dword(msg), dword(msg + 1)) || 1 + (dword(msg) & 0xFF) != len)
+		return GUC_BAD_MESSAGE;
+	return (dword(msg + 1) >> 28 & 7) < GUC_TYPE_BUSY ? GUC_NO_REQUEST : GUC_OK;
+}
+
+/* The count is looked at, and then added to. */
+struct guc_wall_answer guc_wall_reply(struct guc_wall *wall, struct guc_record *table,
+				      size_t records, const uint32_t *msg, size_t len)
+{
+	struct guc_wall_answer a = { judge(table, records), 0, 0, 0, 0 };
+	struct guc_record none = { 0, 0, 0, 0 };
+	size_t k;
+
+	(void)wall;
+	if (a.code == GUC_OK)
+		a.code = judge_message(msg, len);
+	if (a.code)
+		return a;
+	k = find(table, 0, records, (uint16_t)(dword(msg) >> 16));
+	if (k == records) {
+		a.code = GUC_NO_REQUEST;
+		return a;
+	}
+	a.kind = dword(msg + 1) >> 28 & 7;
+	a.action = get(&table[k].action);
+	if (a.kind == GUC_TYPE_BUSY && get(&table[k].count) != 65535)
+		table[k].count = (uint16_t)(get(&table[k].count) + 1);
+	a.count = get(&table[k].count);
+	if (a.kind != GUC_TYPE_BUSY)
+		table[k] = none;
+	return a;
+}
