@@ -20,7 +20,8 @@ use ghost.Atoms.{Atoms, sem}
 use contract.Monad.{Fun, fact}
 use contract.Running.{givenOf, tables, tablesOf}
 use types.Kit.{Given, Item, ‵, raw, _⊛_, some, later, ⋆, _$_, _∵_, !, qed, by, move, keep, drop, use0, use1, use2, use3}
-use types.Kit.{rewrite, split, join, pick, fsplit, fjoin, feqL, suffices, frame, await, done, Seq, Go, runs, allocs, params′, atRet}
+use types.Kit.{rewrite, split, join, pick, fsplit, fjoin, feqL, suffices, frame, await, done, Seq, Go, runs, allocs}
+use types.Kit.{params′, atRet}
 use types.Part.{agg, whole, sub, look-in}
 use types.Run.{look, init, forget, stop, hop, fld, from, load, addr, of-opd, and-then, no-more, assigns, land, returns, enter}
 use types.Run.{alloc1, alloc0, params1, pass1, pass0, free1, free0}
@@ -268,9 +269,11 @@ module _ {M : Type 1} (𝓤 : URA M) (H : Heap 𝓤) (A : Atoms 𝓤) (W : Given
         (init ! 12 refl (tt, record { fits = gn .0 }))
         -- kept
         $ use0 W (raw (Keep 𝓤 H A mem run .pre to-keep)) goes-keep
-        $ calls-at ! fm (Keep 𝓤 H A mem run) known-keep to-keep (and-then ! (load ! (from ! (stop !)) (look ! 13 refl)) (no-more !)) (λ w.
+        $ calls-at ! fm (Keep 𝓤 H A mem run) known-keep to-keep (and-then ! (load ! (from ! (stop !))
+        (look ! 13 refl)) (no-more !)) (λ w.
         use1 W (later (some (λ (m : ℕ). (‵ ftrue ⊛ ‵ (usize .own m (w ∷ [])))
-        ⊛ raw (ensured 𝓤 H A keep-fn.ended (keep-fn.clauses 𝓤 H A mem run) tt (n, tt) tt m)))) (id⊢ 𝓤 _) $ await ! tt $ pick ! (λ m.
+        ⊛ raw (ensured 𝓤 H A keep-fn.ended (keep-fn.clauses 𝓤 H A mem run) tt (n, tt) tt m)))) (id⊢ 𝓤 _)
+        $ await ! tt $ pick ! (λ m.
         split ! $ move ! (1 ∷ []) $ use1 W (raw (fact 𝓤 (m ≡ kept n))) (keep-said m) $ heard ! (m ≡ kept n) (λ em.
         split ! $ drop ! $ facts ! usize (Is usize) (shows 𝓤 H A usize) m (w ∷ []) (λ im.
         land ! (from ! (stop !)) (init ! 16 refl (uint-lawful 𝓤 H A W w64 .typed m _ im .0))
@@ -279,19 +282,23 @@ module _ {M : Type 1} (𝓤 : URA M) (H : Heap 𝓤) (A : Atoms 𝓤) (W : Given
         $ assigns ! (addr ! (from ! (fld ! refl (hop ! (look-in ! 20 (sub ! 0 refl (whole !))) (stop !))))) (from ! (stop !))
         (init ! 10 refl (tt, tt))
         $ assigns ! (agg ! (and-then ! (load ! (from ! (stop !)) (look ! 10 refl))
-        (and-then ! (load ! (from ! (fld ! refl (stop !))) (look-in ! 20 (sub ! 1 refl (whole !)))) (no-more !)))) (from ! (stop !))
+        (and-then ! (load ! (from ! (fld ! refl (stop !))) (look-in ! 20 (sub ! 1 refl (whole !)))) (no-more !))))
+        (from ! (stop !))
         (init ! 8 refl (tt, (tt, (record { fits = gn .0 }, tt))))
         $ assigns ! (addr ! (from ! (hop ! (look ! 22 refl) (stop !)))) (from ! (stop !)) (init ! 6 refl (tt, tt))
         $ move ! (27 ∷ []) $ fsplit ! $ move ! (1 ∷ []) $ fsplit ! $ move ! (29 ∷ []) $ split ! $ move ! (1 ∷ []) $ split !
         $ lft-new ! tt (λ ν. move ! (4 ∷ 1 ∷ [])
         $ use2 W (later (some (λ (δ : GName). ‵ (ShrSlice (named 0) (ν ∷ []) R .own (x₂ δ) (s ∷ []))
         ⊛ ‵ (LentShared R κ (ν ∷ []) q γ b o ys)))) (lends-shared R κ (ν ∷ []) q γ b o ys 𝓤 H A W (named 1) (named 0))
-        $ await ! tt $ pick ! (λ δ. split ! $ move ! (4 ∷ 3 ∷ []) $ join ! $ move ! (3 ∷ 0 ∷ []) $ join ! $ move ! (0 ∷ 1 ∷ 4 ∷ [])
+        $ await ! tt $ pick ! (λ δ. split ! $ move ! (4 ∷ 3 ∷ []) $ join ! $ move ! (3 ∷ 0 ∷ []) $ join !
+        $ move ! (0 ∷ 1 ∷ 4 ∷ [])
         $ use3 W (raw (Judge 𝓤 H A mem run .pre (to-judge ν δ m))) (goes-judge ν δ m (im .1) em)
         $ calls-at ! fm (Judge 𝓤 H A mem run) known-judge (to-judge ν δ m)
         (and-then ! (load ! (from ! (stop !)) (look ! 11 refl)) (and-then ! (load ! (from ! (stop !)) (look ! 19 refl))
-        (and-then ! (load ! (from ! (stop !)) (look ! 9 refl)) (and-then ! (load ! (from ! (stop !)) (look ! 21 refl)) (no-more !))))) (λ v.
-        use1 W (later (some (λ (p : Plan). ((‵ (flft (ν ∷ []) fullShare) ⊛ (‵ (flft κ₁ q₁) ⊛ ‵ ftrue)) ⊛ ‵ (P.the-row .own p (v ∷ [])))
+        (and-then ! (load ! (from ! (stop !)) (look ! 9 refl)) (and-then ! (load ! (from ! (stop !))
+        (look ! 21 refl)) (no-more !))))) (λ v.
+        use1 W (later (some (λ (p : Plan). ((‵ (flft (ν
+        ∷ []) fullShare) ⊛ (‵ (flft κ₁ q₁) ⊛ ‵ ftrue)) ⊛ ‵ (P.the-row .own p (v ∷ [])))
         ⊛ raw (ensured 𝓤 H A judge.ended (judge.clauses 𝓤 H A mem run) (ν ∷ [], (κ₁, tt)) (judge-arg δ m) tt p)))) (id⊢ 𝓤 _)
         $ await ! tt $ pick ! (λ p. split ! $ move ! (1 ∷ [])
         $ use1 W (some (λ (us : Unit {0} × (Unit {0} × (List ℕ × (Unit {0} × Unit {0})))).
@@ -308,7 +315,8 @@ module _ {M : Type 1} (𝓤 : URA M) (H : Heap 𝓤) (A : Atoms 𝓤) (W : Given
         $ assigns ! (addr ! (from ! (fld ! refl (hop ! (look-in ! 25 (sub ! 0 refl (whole !))) (stop !))))) (from ! (stop !))
         (init ! 7 refl (tt, tt))
         $ assigns ! (agg ! (and-then ! (load ! (from ! (stop !)) (look ! 7 refl))
-        (and-then ! (load ! (from ! (fld ! refl (stop !))) (look-in ! 25 (sub ! 1 refl (whole !)))) (no-more !)))) (from ! (stop !))
+        (and-then ! (load ! (from ! (fld ! refl (stop !))) (look-in ! 25 (sub ! 1 refl (whole !)))) (no-more !))))
+        (from ! (stop !))
         (init ! 5 refl (tt, (tt, (record { fits = gn .0 }, tt))))
         $ move ! (1 ∷ 0 ∷ [])
         $ use2 W (raw (Store 𝓤 H A mem run .pre (to-store p))) (goes-store p (at-fits p v ip) (stored-is p v ip))
@@ -335,7 +343,8 @@ module _ {M : Type 1} (𝓤 : URA M) (H : Heap 𝓤) (A : Atoms 𝓤) (W : Given
         $ move ! (16 ∷ 17 ∷ []) $ free1 ! $ move ! (14 ∷ 15 ∷ []) $ free1 ! $ move ! (12 ∷ 13 ∷ []) $ free1 !
         $ move ! (10 ∷ 11 ∷ []) $ free1 ! $ move ! (8 ∷ 9 ∷ []) $ free1 ! $ move ! (6 ∷ 7 ∷ []) $ free1 ! $ free0 !
         $ keep ! (3 ∷ 0 ∷ 4 ∷ 1 ∷ 5 ∷ [])
-        $ by ! (exits (p .answer) (us .1 .1 .0) (zs .0) (answer-is p v ip) (carried-out p ys (zs .0) (us .1 .1 .0) ez ∙ ej) l)))))))))))))))))))))))))))))))
+        $ by ! (exits (p .answer) (us .1 .1 .0) (zs .0) (answer-is p v ip) (carried-out p ys (zs .0)
+        (us .1 .1 .0) ez ∙ ej) l)))))))))))))))))))))))))))))))
       where
         at-fits : (p : Plan) (v : Val) → Is P.the-row p (v ∷ []) → p .at < 2 ^ 64
         at-fits p v ip = LL.owed P.the-type P′.the-laws p (v ∷ []) ip .0 .1
@@ -350,7 +359,8 @@ module _ {M : Type 1} (𝓤 : URA M) (H : Heap 𝓤) (A : Atoms 𝓤) (W : Given
         (WpFn 𝓤 H C Λ code.function (vptr b₁ o₁ ∷ s ∷ asked ∷ []) Post)
     walk = qed W Entry ∵ enter ! C Λ code.function (vptr b₁ o₁ ∷ s ∷ asked ∷ []) _ $ inside
 
-module _ {M : Type 1} (𝓤 : URA M) (H : Heap 𝓤) (A : Atoms 𝓤) (W : Given 𝓤 H A) (mem : Memory → SProp 𝓤) (run : Routine → Fun 𝓤) where
+module _ {M : Type 1} (𝓤 : URA M) (H : Heap 𝓤) (A : Atoms 𝓤) (W : Given 𝓤 H A) (mem : Memory
+    → SProp 𝓤) (run : Routine → Fun 𝓤) where
   walks : (C : Calls 𝓤 H) (Λ : Loops 𝓤 H) → FmC 𝓤 H (W .laws) C → Triple 𝓤 (C #wall·kept) (Keep 𝓤 H A mem run)
       → Triple 𝓤 (C #wall·judge) (Judge 𝓤 H A mem run) → Triple 𝓤 (C #wall·store) (Store 𝓤 H A mem run)
       → Walks 𝓤 H A f.ended stayed (WpFn 𝓤 H C Λ code.function) (f.clauses 𝓤 H A mem run)

@@ -27,7 +27,8 @@ use types.Kit.{Given, Item, ‵, _⊛_, ⋆, anyQ, atRet, _$_, _∵_, !, qed, by
 use types.Kit.{feqI, suffices, frame, done, Seq, Go, runs, allocs, params′}
 use types.Part.{agg, whole, sub, look-in}
 use types.Run.{look, init, store, store-raw, forget, stop, hop, fld, from, load, lit, unit-lit, of-opd, and-then, no-more, bin}
-use types.Run.{assigns, assigns-last, stays, leaves-loop, exec, returns, enter, alloc1, alloc0, params1, pass1, pass0, free1, free0}
+use types.Run.{assigns, assigns-last, stays, leaves-loop, exec, returns, enter, alloc1, alloc0, params1, pass1, pass0}
+use types.Run.{free1, free0}
 use sound.WpLaws.{WpFn-mono}
 use denote.RattleType.{RattleType, owns}
 use denote.Memory.{pointee}
@@ -45,7 +46,8 @@ use denote.Struct.Laws as LL
 use denote.Triple.Entry.{Vals, onEntry}
 use denote.Triple.Spec.{Meets, tripleOf}
 use denote.Triple.Table.{entered}
-use denote.Triple.Walked.{says, needs, Stays, stay-none, stay-slice, walkOf, goes-none, goes-slice, Walks, ends-at, walked, walk-meets}
+use denote.Triple.Walked.{says, needs, Stays, stay-none, stay-slice, walkOf, goes-none, goes-slice, Walks, ends-at}
+use denote.Triple.Walked.{walked, walk-meets}
 use denote.Exit.{yes}
 use Rattle.requests.specs.Table.{freeRecord}
 use Rattle.requests.specs.declared.record.Record.{Record}
@@ -213,7 +215,8 @@ module _ {M : Type 1} (𝓤 : URA M) (H : Heap 𝓤) (A : Atoms 𝓤) (W : Given
         qed W (At m zs) ∵ exec ! C Λ En turn-1 (anyQ (afterTurn 𝓤 H X Left))
         $ assigns ! (bin ! (load ! (from ! (stop !)) (look ! 1 refl)) (load ! (from ! (stop !)) (look ! 11 refl)) tt)
         (from ! (stop !)) (init ! 2 refl (tt, tt))
-        $ rewrite ! 2 (λ (t : Bool). ‵ (fat fullShare tyBool l₅ 0 (vbool t))) (fails (ltb m m) (λ a. lt-irrefl m (ltb→lt m m a))) refl
+        $ rewrite ! 2 (λ (t : Bool). ‵ (fat fullShare tyBool l₅ 0 (vbool t))) (fails (ltb m m) (λ a. lt-irrefl m
+        (ltb→lt m m a))) refl
         $ leaves-loop ! (load ! (from ! (stop !)) (look ! 2 refl)) $ exec ! C Λ En t-4 (atRet En Post)
         $ move ! (0 ∷ 5 ∷ 6 ∷ 7 ∷ []) $ closes-slice ! tt R ys zs la b o
         $ assigns ! (of-opd ! (unit-lit !)) (from ! (stop !)) (init ! 12 refl (tt, tt))
@@ -269,10 +272,12 @@ module _ {M : Type 1} (𝓤 : URA M) (H : Heap 𝓤) (A : Atoms 𝓤) (W : Given
     starts : ent 𝓤 (⋆ 𝓤 H A Start) (Wp 𝓤 H C Λ En t-1 (atReturn 𝓤 H En Post))
     starts =
         qed W Start ∵ exec ! C Λ En t-1 (atRet En Post)
-        $ assigns ! (agg ! (and-then ! (lit ! tt) (and-then ! (lit ! tt) (and-then ! (lit ! tt) (and-then ! (lit ! tt) (no-more !))))))
+        $ assigns ! (agg ! (and-then ! (lit ! tt) (and-then ! (lit ! tt) (and-then ! (lit ! tt) (and-then !
+        (lit ! tt) (no-more !))))))
         (from ! (stop !)) (init ! 8 refl free-wt)
         $ assigns ! (of-opd ! (lit ! tt)) (from ! (stop !)) (init ! 6 refl (tt, record { fits = lit< tt }))
-        $ move ! (17 ∷ []) $ fsplit ! $ fsplit ! $ move ! (1 ∷ []) $ fsplit ! $ move ! (20 ∷ []) $ split ! $ move ! (2 ∷ 3 ∷ 0 ∷ [])
+        $ move ! (17 ∷ []) $ fsplit ! $ fsplit ! $ move ! (1 ∷ []) $ fsplit ! $ move ! (20 ∷ []) $ split !
+        $ move ! (2 ∷ 3 ∷ 0 ∷ [])
         $ opens-slice ! tt R ys b o
         $ keep ! (0 ∷ 13 ∷ 11 ∷ 9 ∷ 7 ∷ 1 ∷ 2 ∷ 3 ∷ 5 ∷ 6 ∷ 19 ∷ 17 ∷ 15 ∷ 21 ∷ 22 ∷ 20 ∷ 18 ∷ 16 ∷ 14 ∷ 12 ∷ 10 ∷ 8 ∷ [])
         $ by ! loops
@@ -290,7 +295,8 @@ module _ {M : Type 1} (𝓤 : URA M) (H : Heap 𝓤) (A : Atoms 𝓤) (W : Given
   inside : (𝓣 : Tables 𝓤 H)
       → Seq (Go {0}) W Entry (allocs Locals (λ E. params′ E (s ∷ vint w64 m ∷ []) (runs (𝓣 .C) (𝓣 .Λ) E t-1 (atRet E Post))))
   inside 𝓣 =
-      alloc1 ! (λ l₀. alloc1 ! (λ l₁. alloc1 ! (λ l₂. alloc1 ! (λ l₃. alloc1 ! (λ l₄. alloc1 ! (λ l₅. alloc1 ! (λ l₆. alloc1 ! (λ l₇.
+      alloc1 ! (λ l₀. alloc1 ! (λ l₁. alloc1 ! (λ l₂. alloc1 ! (λ l₃. alloc1 ! (λ l₄. alloc1 ! (λ l₅. alloc1 !
+      (λ l₆. alloc1 ! (λ l₇.
       alloc0 ! $ params1 ! $ pass1 ! (init ! 12 refl (tt, (tt, (record { fits = gn .0 }, tt))))
       $ pass1 ! (init ! 10 refl (tt, record { fits = gm })) $ pass0 ! $ by ! (starts 𝓣 l₀ l₁ l₂ l₃ l₄ l₅ l₆ l₇)))))))))
 
@@ -298,7 +304,8 @@ module _ {M : Type 1} (𝓤 : URA M) (H : Heap 𝓤) (A : Atoms 𝓤) (W : Given
       (WpFn 𝓤 H (𝓣 .C) (𝓣 .Λ) code.function (s ∷ vint w64 m ∷ []) Post)
   walk 𝓣 = qed W Entry ∵ enter ! (𝓣 .C) (𝓣 .Λ) code.function (s ∷ vint w64 m ∷ []) _ $ inside 𝓣
 
-module _ {M : Type 1} (𝓤 : URA M) (H : Heap 𝓤) (A : Atoms 𝓤) (W : Given 𝓤 H A) (mem : Memory → SProp 𝓤) (run : Routine → Fun 𝓤) where
+module _ {M : Type 1} (𝓤 : URA M) (H : Heap 𝓤) (A : Atoms 𝓤) (W : Given 𝓤 H A) (mem : Memory
+    → SProp 𝓤) (run : Routine → Fun 𝓤) where
   walks : (𝓣 : Tables 𝓤 H) → Walks 𝓤 H A f.ended stayed (WpFn 𝓤 H (𝓣 .C) (𝓣 .Λ) code.function) (f.clauses 𝓤 H A mem run)
   walks 𝓣 =
       walked 𝓤 H A f.ended stayed (f.clauses 𝓤 H A mem run) (WpFn 𝓤 H (𝓣 .C) (𝓣 .Λ) code.function)

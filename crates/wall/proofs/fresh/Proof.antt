@@ -18,7 +18,8 @@ use ghost.Atoms.{Atoms, sem}
 use contract.Monad.{Fun, fact}
 use contract.Running.{givenOf, tables, tablesOf}
 use types.Kit.{Given, Item, ‵, raw, _⊛_, some, later, ⋆, _$_, _∵_, !, qed, by, move, keep, drop, use1, use2}
-use types.Kit.{rewrite, split, join, pick, fsplit, fjoin, feqL, suffices, frame, await, done, Seq, Go, runs, allocs, params′, atRet}
+use types.Kit.{rewrite, split, join, pick, fsplit, fjoin, feqL, suffices, frame, await, done, Seq, Go, runs, allocs}
+use types.Kit.{params′, atRet}
 use types.Part.{agg, whole, sub, look-in}
 use types.Run.{look, init, forget, stop, hop, fld, from, load, addr, of-opd, and-then, no-more, assigns, land, returns, enter}
 use types.Run.{alloc1, alloc0, params1, pass1, pass0, free1, free0}
@@ -182,7 +183,8 @@ module _ {M : Type 1} (𝓤 : URA M) (H : Heap 𝓤) (A : Atoms 𝓤) (W : Given
       $ move ! (1 ∷ 0 ∷ []) $ done !
 
   module _ (C : Calls 𝓤 H) (Λ : Loops 𝓤 H) (fm : FmC 𝓤 H (W .laws) C)
-      (known-begin : Triple 𝓤 (C #requests·begin) (Begin 𝓤 H A mem run)) (known-clear : Triple 𝓤 (C #wall·clear) (Clear 𝓤 H A mem run))
+      (known-begin : Triple 𝓤 (C #requests·begin) (Begin 𝓤 H A mem run)) (known-clear : Triple 𝓤 (C #wall·clear)
+      (Clear 𝓤 H A mem run))
     where
       -- the locals, with their types spelled out
       abbrev Locals : List Local
@@ -208,21 +210,24 @@ module _ {M : Type 1} (𝓤 : URA M) (H : Heap 𝓤) (A : Atoms 𝓤) (W : Given
           $ move ! (19 ∷ []) $ fsplit ! $ move ! (1 ∷ []) $ fsplit ! $ move ! (21 ∷ []) $ split ! $ move ! (0 ∷ 4 ∷ [])
           $ use2 W (raw (Begin 𝓤 H A mem run .pre to-begin)) goes-begin
           $ calls-at ! fm (Begin 𝓤 H A mem run) known-begin to-begin
-          (and-then ! (load ! (from ! (stop !)) (look ! 12 refl)) (and-then ! (load ! (from ! (stop !)) (look ! 10 refl)) (no-more !))) (λ v.
+          (and-then ! (load ! (from ! (stop !)) (look ! 12 refl)) (and-then ! (load ! (from ! (stop !))
+          (look ! 10 refl)) (no-more !))) (λ v.
           use1 W (later (some (λ (g : Begun). ((‵ (flft κ₁ q₁) ⊛ ‵ ftrue) ⊛ ‵ (G.the-row .own g (v ∷ [])))
           ⊛ raw (ensured 𝓤 H A begin.ended (begin.clauses 𝓤 H A mem run) (κ₁, tt) begin-arg tt g)))) (id⊢ 𝓤 _)
           $ await ! tt $ pick ! (λ g. split ! $ move ! (1 ∷ [])
           $ use1 W (some (λ (us : List ℕ × (Unit {0} × Unit {0})).
           ‵ (lasts begin.ended (κ₁, tt) begin-arg us) ⊛ raw (fact 𝓤 (Begins g (us .0))))) (id⊢ 𝓤 _)
           $ pick ! (λ us. split ! $ move ! (1 ∷ []) $ heard ! (Begins g (us .0)) (λ eg. fsplit ! $ move ! (1 ∷ []) $ drop !
-          $ move ! (1 ∷ []) $ split ! $ move ! (1 ∷ []) $ facts ! G.the-row (Is G.the-row) (shows 𝓤 H A G.the-row) g (v ∷ []) (λ ig.
+          $ move ! (1 ∷ []) $ split ! $ move ! (1 ∷ [])
+          $ facts ! G.the-row (Is G.the-row) (shows 𝓤 H A G.the-row) g (v ∷ []) (λ ig.
           land ! (from ! (stop !)) (init ! 15 refl (LL.lawful G.the-type G′.the-laws 𝓤 H A W .typed g _ ig .0))
           $ rewrite ! 15 (λ (u : Val). ‵ (fat fullShare G′.mir l₃ 0 u)) (ap only (G′.lowers .val-is g (v ∷ []) ig)) refl
           -- clear: and so is the table
           $ assigns ! (addr ! (from ! (fld ! refl (hop ! (look-in ! 17 (sub ! 0 refl (whole !))) (stop !))))) (from ! (stop !))
           (init ! 7 refl (tt, tt))
           $ assigns ! (agg ! (and-then ! (load ! (from ! (stop !)) (look ! 7 refl))
-          (and-then ! (load ! (from ! (fld ! refl (stop !))) (look-in ! 17 (sub ! 1 refl (whole !)))) (no-more !)))) (from ! (stop !))
+          (and-then ! (load ! (from ! (fld ! refl (stop !))) (look-in ! 17 (sub ! 1 refl (whole !)))) (no-more !))))
+          (from ! (stop !))
           (init ! 5 refl (tt, (tt, (record { fits = gn .0 }, tt))))
           $ move ! (2 ∷ 3 ∷ [])
           $ use2 W (raw (Clear 𝓤 H A mem run .pre (to-clear g))) (goes-clear g (records-fit g v ig) (within n g (eg .0)))
@@ -246,7 +251,8 @@ module _ {M : Type 1} (𝓤 : URA M) (H : Heap 𝓤) (A : Atoms 𝓤) (W : Given
           $ move ! (16 ∷ 17 ∷ []) $ free1 ! $ move ! (14 ∷ 15 ∷ []) $ free1 ! $ move ! (12 ∷ 13 ∷ []) $ free1 !
           $ move ! (10 ∷ 11 ∷ []) $ free1 ! $ move ! (8 ∷ 9 ∷ []) $ free1 ! $ move ! (6 ∷ 7 ∷ []) $ free1 ! $ free0 !
           $ keep ! (3 ∷ 0 ∷ 4 ∷ 1 ∷ [])
-          $ by ! (exits (g .code) (us .0) (zs .0) (code-fits g v ig) (made-fresh ys ws g (us .0) (zs .0) (eg .0) (eg .1) ez) l)))))))))))))))))))))
+          $ by ! (exits (g .code) (us .0) (zs .0) (code-fits g v ig) (made-fresh ys ws g (us .0) (zs .0) (eg .0)
+          (eg .1) ez) l)))))))))))))))))))))
         where
           code-fits : (g : Begun) (v : Val) → Is G.the-row g (v ∷ []) → g .code < 2 ^ 32
           code-fits g v ig = LL.owed G.the-type G′.the-laws g (v ∷ []) ig .0 .1
@@ -258,7 +264,8 @@ module _ {M : Type 1} (𝓤 : URA M) (H : Heap 𝓤) (A : Atoms 𝓤) (W : Given
           (WpFn 𝓤 H C Λ code.function (vptr b₁ o₁ ∷ s ∷ []) Post)
       walk = qed W Entry ∵ enter ! C Λ code.function (vptr b₁ o₁ ∷ s ∷ []) _ $ inside
 
-module _ {M : Type 1} (𝓤 : URA M) (H : Heap 𝓤) (A : Atoms 𝓤) (W : Given 𝓤 H A) (mem : Memory → SProp 𝓤) (run : Routine → Fun 𝓤) where
+module _ {M : Type 1} (𝓤 : URA M) (H : Heap 𝓤) (A : Atoms 𝓤) (W : Given 𝓤 H A) (mem : Memory
+    → SProp 𝓤) (run : Routine → Fun 𝓤) where
   walks : (C : Calls 𝓤 H) (Λ : Loops 𝓤 H) → FmC 𝓤 H (W .laws) C → Triple 𝓤 (C #requests·begin) (Begin 𝓤 H A mem run)
       → Triple 𝓤 (C #wall·clear) (Clear 𝓤 H A mem run)
       → Walks 𝓤 H A f.ended stayed (WpFn 𝓤 H C Λ code.function) (f.clauses 𝓤 H A mem run)

@@ -26,7 +26,8 @@ use contract.Running.{givenOf, tables, tablesOf}
 use sound.Loop.{loop-rule}
 use types.Kit.{Given, Item, ‵, raw, _⊛_, some, given, later, ⋆, anyQ, atRet, _$_, _∵_, !, qed, by, move, keep, drop}
 use types.Kit.{Seq, Go, runs, allocs, params′}
-use types.Kit.{use0, use1, use2, use3, split, join, pick, learn, check, show, rewrite, fsplit, fjoin, suffices, frame, await, done}
+use types.Kit.{use0, use1, use2, use3, split, join, pick, learn, check, show, rewrite, fsplit, fjoin, suffices, frame}
+use types.Kit.{await, done}
 use types.Part.{rep, whole, sub, look-in}
 use types.Run.{look, look-raw, init, store, store-raw, forget, stop, hop, fld, from, load, lit, of-opd, and-then, no-more}
 use types.Run.{bin, addr, assigns, assigns-last, land, stays, leaves-loop, exec, returns, enter, alloc1, alloc0, params1, pass1}
@@ -53,7 +54,8 @@ use denote.Triple.Clauses.{ensured, lasts}
 use denote.Triple.Entry.{Vals, onEntry}
 use denote.Triple.Spec.{Meets, tripleOf}
 use denote.Triple.Table.{entered, cited}
-use denote.Triple.Walked.{says, needs, Stays, stay-none, stay-none-slice, gave-ref, walkOf, goes-none, goes-none-slice, goes-gave-ref}
+use denote.Triple.Walked.{says, needs, Stays, stay-none, stay-none-slice, gave-ref, walkOf, goes-none}
+use denote.Triple.Walked.{goes-none-slice, goes-gave-ref}
 use denote.Triple.Walked.{Walks, ends-at, walked, walk-meets}
 use denote.Exit.{yes}
 use Rattle.requests.specs.Table.{freeRecord}
@@ -238,7 +240,8 @@ module _ {M : Type 1} (𝓤 : URA M) (H : Heap 𝓤) (A : Atoms 𝓤) (W : Given
       → ent 𝓤 (⋆ 𝓤 H A (‵ (flft κ q) ∷ (‵ (flft κ₂ q₂) ⊛ ‵ ftrue) ∷ ‵ (ShrSlice (named 0) κ R .own x₁ (s ∷ []))
       ∷ ‵ (usize .own m (vint w64 m ∷ [])) ∷ ‵ (fres γ₂ (State .coded .code us))
       ∷ ‵ (fsep (K.the-row .own ask (asked ∷ [])) ftrue) ∷ [])) (Post (P′.lowered p))) where
-    module _ (𝓣 : Tables 𝓤 H) (fm : FmC 𝓤 H (W .laws) (𝓣 .C)) (known-word : Triple 𝓤 (𝓣 .C #requests·word-of) (Word 𝓤 H A mem run))
+    module _ (𝓣 : Tables 𝓤 H) (fm : FmC 𝓤 H (W .laws) (𝓣 .C)) (known-word : Triple 𝓤 (𝓣 .C #requests·word-of)
+        (Word 𝓤 H A mem run))
         (known-plan : Triple 𝓤 (𝓣 .C #requests·plan-call) (PlanCall 𝓤 H A mem run))
         (l₀ l₁ l₂ l₃ l₄ l₅ l₆ l₇ l₈ l₉ l₁₀ l₁₁ l₁₂ l₁₃ l₁₄ l₁₅ l₁₆ l₁₇ : ℕ) (q′ : Share) where
       abbrev C : Calls 𝓤 H
@@ -378,7 +381,8 @@ module _ {M : Type 1} (𝓤 : URA M) (H : Heap 𝓤) (A : Atoms 𝓤) (W : Given
           qed W (At m zs) ∵ exec ! C Λ En turn-1 (anyQ (afterTurn 𝓤 H X Left))
           $ assigns ! (bin ! (load ! (from ! (stop !)) (look ! 2 refl)) (load ! (from ! (stop !)) (look ! 12 refl)) tt)
           (from ! (stop !)) (init ! 4 refl (tt, tt))
-          $ rewrite ! 4 (λ (t : Bool). ‵ (fat fullShare tyBool l₈ 0 (vbool t))) (fails (ltb m m) (λ a. lt-irrefl m (ltb→lt m m a))) refl
+          $ rewrite ! 4 (λ (t : Bool). ‵ (fat fullShare tyBool l₈ 0 (vbool t))) (fails (ltb m m) (λ a. lt-irrefl m
+          (ltb→lt m m a))) refl
           $ leaves-loop ! (load ! (from ! (stop !)) (look ! 4 refl)) $ exec ! C Λ En t-4 (atRet En Post)
           $ assigns ! (addr ! (from ! (stop !))) (from ! (stop !)) (init ! 16 refl (tt, tt))
           $ assigns ! (of-opd ! (load ! (from ! (fld ! refl (stop !))) (look-in ! 11 (sub ! 1 refl (whole !))))) (from ! (stop !))
@@ -394,13 +398,16 @@ module _ {M : Type 1} (𝓤 : URA M) (H : Heap 𝓤) (A : Atoms 𝓤) (W : Given
           $ use3 W (raw (PlanCall 𝓤 H A mem run .pre (to-plan ν l₅ δ zs))) (goes-plan ν l₅ δ zs)
           $ calls-at ! fm (PlanCall 𝓤 H A mem run) known-plan (to-plan ν l₅ δ zs)
           (and-then ! (load ! (from ! (stop !)) (look ! 19 refl)) (and-then ! (load ! (from ! (stop !)) (look ! 20 refl))
-          (and-then ! (load ! (from ! (stop !)) (look ! 21 refl)) (and-then ! (load ! (from ! (stop !)) (look ! 18 refl)) (no-more !))))) (λ v.
-          use1 W (later (some (λ (p : Plan). ((‵ (flft (ν ∷ []) fullShare) ⊛ (‵ (flft κ₂ q₂) ⊛ ‵ ftrue)) ⊛ ‵ (P.the-row .own p (v ∷ [])))
+          (and-then ! (load ! (from ! (stop !)) (look ! 21 refl)) (and-then ! (load ! (from ! (stop !))
+          (look ! 18 refl)) (no-more !))))) (λ v.
+          use1 W (later (some (λ (p : Plan). ((‵ (flft (ν
+          ∷ []) fullShare) ⊛ (‵ (flft κ₂ q₂) ⊛ ‵ ftrue)) ⊛ ‵ (P.the-row .own p (v ∷ [])))
           ⊛ raw (ensured 𝓤 H A plan.ended (plan.clauses 𝓤 H A mem run) (ν ∷ [], (κ₂, tt)) (plan-arg l₅ δ zs) tt p)))) (id⊢ 𝓤 _)
           $ await ! tt $ pick ! (λ p. split ! $ move ! (1 ∷ [])
           $ use1 W (some (λ (us : Unit {0} × (Unit {0} × (List ℕ × (Unit {0} × Unit {0})))).
           ‵ (lasts plan.ended (ν ∷ [], (κ₂, tt)) (plan-arg l₅ δ zs) us) ⊛ raw (fact 𝓤 (Said zs p (us .1 .1 .0))))) (id⊢ 𝓤 _)
-          $ pick ! (λ us. split ! $ move ! (1 ∷ []) $ heard ! (Said zs p (us .1 .1 .0)) (λ es. fsplit ! $ drop ! $ fsplit ! $ drop !
+          $ pick ! (λ us. split ! $ move ! (1 ∷ []) $ heard ! (Said zs p (us .1 .1 .0)) (λ es. fsplit ! $ drop !
+          $ fsplit ! $ drop !
           $ fsplit ! $ move ! (1 ∷ []) $ drop ! $ move ! (1 ∷ []) $ split ! $ move ! (1 ∷ [])
           $ facts ! P.the-row (Is P.the-row) (shows 𝓤 H A P.the-row) p (v ∷ []) (λ ip.
           land ! (from ! (stop !)) (init ! 17 refl (LL.lawful P.the-type P′.the-laws 𝓤 H A W .typed p _ ip .0))
@@ -462,7 +469,8 @@ module _ {M : Type 1} (𝓤 : URA M) (H : Heap 𝓤) (A : Atoms 𝓤) (W : Given
           via 𝓤 (Inv m) (inv-at m 0 zeros (omega arith, (length-zeros, refl)))
           (loop-rule 𝓤 H (W .laws) 𝓣 _<_ (Nat·lt-wfRel .wf) En turn-1 Left Inv turns m)
 
-    module _ (𝓣 : Tables 𝓤 H) (fm : FmC 𝓤 H (W .laws) (𝓣 .C)) (known-word : Triple 𝓤 (𝓣 .C #requests·word-of) (Word 𝓤 H A mem run))
+    module _ (𝓣 : Tables 𝓤 H) (fm : FmC 𝓤 H (W .laws) (𝓣 .C)) (known-word : Triple 𝓤 (𝓣 .C #requests·word-of)
+        (Word 𝓤 H A mem run))
         (known-plan : Triple 𝓤 (𝓣 .C #requests·plan-call) (PlanCall 𝓤 H A mem run))
         (l₀ l₁ l₂ l₃ l₄ l₅ l₆ l₇ l₈ l₉ l₁₀ l₁₁ l₁₂ l₁₃ l₁₄ l₁₅ l₁₆ l₁₇ : ℕ) where
       abbrev Env-at : Env 𝓤 H
@@ -536,7 +544,8 @@ module _ {M : Type 1} (𝓤 : URA M) (H : Heap 𝓤) (A : Atoms 𝓤) (W : Given
         qed W Entry ∵ enter ! (𝓣 .C) (𝓣 .Λ) code.function (s ∷ vint w64 m ∷ vptr b₂ o₂ ∷ asked ∷ []) _
         $ inside 𝓣 fm known-word known-plan
 
-module _ {M : Type 1} (𝓤 : URA M) (H : Heap 𝓤) (A : Atoms 𝓤) (W : Given 𝓤 H A) (mem : Memory → SProp 𝓤) (run : Routine → Fun 𝓤) where
+module _ {M : Type 1} (𝓤 : URA M) (H : Heap 𝓤) (A : Atoms 𝓤) (W : Given 𝓤 H A) (mem : Memory
+    → SProp 𝓤) (run : Routine → Fun 𝓤) where
   walks : (𝓣 : Tables 𝓤 H) → Triple 𝓤 (𝓣 .C #requests·word-of) (Word 𝓤 H A mem run)
       → Triple 𝓤 (𝓣 .C #requests·plan-call) (PlanCall 𝓤 H A mem run)
       → Walks 𝓤 H A f.ended stayed (WpFn 𝓤 H (𝓣 .C) (𝓣 .Λ) code.function) (f.clauses 𝓤 H A mem run)
@@ -557,7 +566,8 @@ module _ {M : Type 1} (𝓤 : URA M) (H : Heap 𝓤) (A : Atoms 𝓤) (W : Given
       walk 𝓤 H A W mem run (κs .0) (κs .1 .0) (qs .0) (qs .1 .0) (a .0 .ptr .0) (a .0 .ptr .1) (a .0 .name) (a .0 .now)
       (a .1 .0) (a .1 .1 .0 .ptr .0) (a .1 .1 .0 .ptr .1) (a .1 .1 .0 .name) (a .1 .1 .0 .now) (a .1 .1 .1 .0)
       (are .0 .0 .1) (are .1 .0 .1) (kept-ok (length (a .0 .now)) (a .1 .0) ok .0) (kept-ok (length (a .0 .now)) (a .1 .0) ok .1)
-      (are .1 .1 .1 .0) (kept-all (length (a .0 .now)) (a .1 .0) ok) _ (exits-at 𝓤 H A W mem run (κs .0) (κs .1 .0) (qs .0) (qs .1 .0) (a .0 .ptr .0) (a .0 .ptr .1) (a .0 .name) (a .0 .now)
+      (are .1 .1 .1 .0) (kept-all (length (a .0 .now)) (a .1 .0) ok) _ (exits-at 𝓤 H A W mem run (κs .0) (κs .1 .0)
+      (qs .0) (qs .1 .0) (a .0 .ptr .0) (a .0 .ptr .1) (a .0 .name) (a .0 .now)
       (a .1 .0) (a .1 .1 .0 .ptr .0) (a .1 .1 .0 .ptr .1) (a .1 .1 .0 .name) (a .1 .1 .0 .now) (a .1 .1 .1 .0)
       (are .0 .0 .1) (are .1 .0 .1) (kept-ok (length (a .0 .now)) (a .1 .0) ok .0) (kept-ok (length (a .0 .now)) (a .1 .0) ok .1)
       (are .1 .1 .1 .0) (kept-all (length (a .0 .now)) (a .1 .0) ok)) 𝓣 (fmOf 𝓤 H (W .laws) 𝓣) k₁ k₂))

@@ -18,7 +18,8 @@ use ghost.Atoms.{Atoms, sem}
 use contract.Monad.{Fun, fact}
 use contract.Running.{givenOf, tables, tablesOf}
 use types.Kit.{Given, Item, ‵, raw, _⊛_, some, later, ⋆, _$_, _∵_, !, qed, by, move, keep, use1, use3}
-use types.Kit.{rewrite, split, join, pick, fsplit, fjoin, feqL, suffices, frame, await, done, Seq, Go, runs, allocs, params′, atRet}
+use types.Kit.{rewrite, split, join, pick, fsplit, fjoin, feqL, suffices, frame, await, done, Seq, Go, runs, allocs}
+use types.Kit.{params′, atRet}
 use types.Part.{agg, whole, sub, look-in}
 use types.Run.{look, init, forget, stop, hop, fld, from, load, addr, and-then, no-more, assigns, land, returns, enter}
 use types.Run.{alloc1, alloc0, params1, pass1, pass0, free1, free0}
@@ -118,7 +119,8 @@ module _ {M : Type 1} (𝓤 : URA M) (H : Heap 𝓤) (A : Atoms 𝓤) (W : Given
   goes-make =
       qed W ((‵ (flft κ₁ q₁) ⊛ ‵ (flft κ q) ⊛ ‵ ftrue) ∷ ‵ (MutRef (named 0) κ₁ State .own x₁ (vptr b₁ o₁ ∷ []))
       ∷ ‵ (MutSlice (named 1) κ R .own x₂ (s ∷ [])) ∷ [])
-      ∵ nothing ! $ move ! (3 ∷ 0 ∷ []) $ fjoin ! $ move ! (2 ∷ 0 ∷ []) $ fjoin ! $ move ! (1 ∷ 0 ∷ []) $ join ! $ frame ! $ done !
+      ∵ nothing ! $ move ! (3 ∷ 0 ∷ []) $ fjoin ! $ move ! (2 ∷ 0 ∷ []) $ fjoin ! $ move ! (1 ∷ 0 ∷ []) $ join !
+      $ frame ! $ done !
 
   abbrev Made : ℕ → List ℕ → List Record → Type 0
   Made c us zs = given (refusal c) zs us ≡ fresh ys (getD ws 0 0)
@@ -154,19 +156,22 @@ module _ {M : Type 1} (𝓤 : URA M) (H : Heap 𝓤) (A : Atoms 𝓤) (W : Given
         $ assigns ! (addr ! (from ! (fld ! refl (hop ! (look-in ! 6 (sub ! 0 refl (whole !))) (stop !))))) (from ! (stop !))
         (init ! 2 refl (tt, tt))
         $ assigns ! (agg ! (and-then ! (load ! (from ! (stop !)) (look ! 2 refl))
-        (and-then ! (load ! (from ! (fld ! refl (stop !))) (look-in ! 6 (sub ! 1 refl (whole !)))) (no-more !)))) (from ! (stop !))
+        (and-then ! (load ! (from ! (fld ! refl (stop !))) (look-in ! 6 (sub ! 1 refl (whole !)))) (no-more !))))
+        (from ! (stop !))
         (init ! 0 refl (tt, (tt, (record { fits = gn .0 }, tt))))
         $ move ! (13 ∷ []) $ fsplit ! $ move ! (1 ∷ []) $ fsplit ! $ move ! (15 ∷ 2 ∷ 0 ∷ [])
         $ use3 W (raw (Making 𝓤 H A mem run .pre to-make)) goes-make
         $ calls-at ! fm (Making 𝓤 H A mem run) known to-make
-        (and-then ! (load ! (from ! (stop !)) (look ! 6 refl)) (and-then ! (load ! (from ! (stop !)) (look ! 2 refl)) (no-more !))) (λ v.
+        (and-then ! (load ! (from ! (stop !)) (look ! 6 refl)) (and-then ! (load ! (from ! (stop !))
+        (look ! 2 refl)) (no-more !))) (λ v.
         use1 W (later (some (λ (c : ℕ). ((‵ (flft κ₁ q₁) ⊛ ‵ (flft κ q) ⊛ ‵ ftrue) ⊛ ‵ (u32 .own c (v ∷ [])))
         ⊛ raw (ensured 𝓤 H A made.ended (made.clauses 𝓤 H A mem run) (κ₁, (κ, tt)) x tt c)))) (id⊢ 𝓤 _)
         $ await ! tt $ pick ! (λ c. split ! $ move ! (1 ∷ [])
         $ use1 W (some (λ (us : List ℕ × (List Record × Unit {0})).
         ‵ (lasts made.ended (κ₁, (κ, tt)) x us) ⊛ raw (fact 𝓤 (Made c (us .0) (us .1 .0))))) (id⊢ 𝓤 _)
         $ pick ! (λ us. split ! $ move ! (1 ∷ []) $ heard ! (Made c (us .0) (us .1 .0)) (λ e.
-        fsplit ! $ move ! (1 ∷ []) $ fsplit ! $ fsplit ! $ move ! (1 ∷ []) $ feqL ! (λ l. move ! (3 ∷ []) $ split ! $ move ! (1 ∷ [])
+        fsplit ! $ move ! (1 ∷ []) $ fsplit ! $ fsplit ! $ move ! (1 ∷ []) $ feqL ! (λ l. move ! (3 ∷ []) $ split !
+        $ move ! (1 ∷ [])
         $ facts ! u32 (Is u32) (shows 𝓤 H A u32) c (v ∷ []) (λ ic.
         land ! (from ! (stop !)) (init ! 15 refl (uint-lawful 𝓤 H A W w32 .typed c _ ic .0))
         $ rewrite ! 15 (λ (u : Val). ‵ (fat fullShare (tyInt w32) l₀ 0 u)) (ap only (ic .0)) refl
@@ -181,7 +186,8 @@ module _ {M : Type 1} (𝓤 : URA M) (H : Heap 𝓤) (A : Atoms 𝓤) (W : Given
         (WpFn 𝓤 H C Λ code.function (vptr b₁ o₁ ∷ s ∷ []) Post)
     walk = qed W Entry ∵ enter ! C Λ code.function (vptr b₁ o₁ ∷ s ∷ []) _ $ inside
 
-module _ {M : Type 1} (𝓤 : URA M) (H : Heap 𝓤) (A : Atoms 𝓤) (W : Given 𝓤 H A) (mem : Memory → SProp 𝓤) (run : Routine → Fun 𝓤) where
+module _ {M : Type 1} (𝓤 : URA M) (H : Heap 𝓤) (A : Atoms 𝓤) (W : Given 𝓤 H A) (mem : Memory
+    → SProp 𝓤) (run : Routine → Fun 𝓤) where
   walks : (C : Calls 𝓤 H) (Λ : Loops 𝓤 H) → FmC 𝓤 H (W .laws) C → Triple 𝓤 (C #wall·fresh) (Making 𝓤 H A mem run)
       → Walks 𝓤 H A f.ended stayed (WpFn 𝓤 H C Λ code.function) (f.clauses 𝓤 H A mem run)
   walks C Λ fm k =

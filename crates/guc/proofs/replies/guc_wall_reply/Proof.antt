@@ -18,7 +18,8 @@ use ghost.Atoms.{Atoms, sem}
 use contract.Monad.{Fun, fact}
 use contract.Running.{givenOf, tables, tablesOf}
 use types.Kit.{Given, Item, ‵, raw, _⊛_, some, later, ⋆, _$_, _∵_, !, qed, by, move, keep, drop, use1, use2, use3}
-use types.Kit.{rewrite, split, join, pick, fsplit, fjoin, feqL, suffices, frame, await, done, Seq, Go, runs, allocs, params′, atRet}
+use types.Kit.{rewrite, split, join, pick, fsplit, fjoin, feqL, suffices, frame, await, done, Seq, Go, runs, allocs}
+use types.Kit.{params′, atRet}
 use types.Part.{agg, whole, sub, look-in}
 use types.Run.{look, init, forget, stop, hop, fld, from, load, addr, and-then, no-more, assigns, land, returns, enter}
 use types.Run.{alloc1, alloc0, params1, pass1, pass0, free1, free0}
@@ -76,8 +77,14 @@ abbrev State : RattleType
 State = Array u16 1
 
 abbrev stayed : Stays (f.ended .signature .params) (f.ended .kept)
-stayed =
-    (gave-ref (0 ∷ []) tt (plain (λ _. State)), (gave-slice (1 ∷ []) tt (plain (λ _. R)), (stay-dropped (shrSliceOf (2 ∷ []) tt (plain (λ _. u32))) yes, tt)))
+stayed = (
+  gave-ref (0 ∷ []) tt (plain (λ _. State)),
+  (
+    gave-slice (1
+        ∷ []) tt (plain (λ _. R)),
+    (stay-dropped (shrSliceOf (2 ∷ []) tt (plain (λ _. u32))) yes, tt),
+  ),
+)
 
 -- ---- the locals' types
 abbrev stateRef : Ty
@@ -174,12 +181,28 @@ module _ {M : Type 1} (𝓤 : URA M) (H : Heap 𝓤) (A : Atoms 𝓤) (W : Given
 
   exits : (r : Answer) (us : List ℕ) (zs : List Record) → Is N.the-row r (N′.lowered r ∷ [])
       → given r zs us ≡ reply ys (getD ws 0 0) (unpack ms) → length zs ≡ length ys
-      → ent 𝓤 (⋆ 𝓤 H A ((‵ (flft κ₁ q₁) ⊛ ‵ (flft κ q) ⊛ ‵ ftrue) ∷ (‵ (flft κ₃ q₃) ⊛ ‵ ftrue) ∷ ‵ (fres γ₁ (State .coded .code us))
+      → ent 𝓤 (⋆ 𝓤 H A ((‵ (flft κ₁ q₁) ⊛ ‵ (flft κ q) ⊛ ‵ ftrue) ∷ (‵ (flft κ₃ q₃) ⊛ ‵ ftrue)
+      ∷ ‵ (fres γ₁ (State .coded .code us))
       ∷ ‵ (finally R γ zs) ∷ [])) (Post (N′.lowered r))
   exits r us zs ir e l =
       qed W ((‵ (flft κ₁ q₁) ⊛ ‵ (flft κ q) ⊛ ‵ ftrue) ∷ (‵ (flft κ₃ q₃) ⊛ ‵ ftrue) ∷ ‵ (fres γ₁ (State .coded .code us))
       ∷ ‵ (finally R γ zs) ∷ [])
-      ∵ suffices ! _ (ends-at 𝓤 H A f.ended stayed (f.clauses 𝓤 H A mem run) W (((κ₁, (κ, (κ₃, tt))), (q₁, (q, (q₃, tt))), tt, x, at), tt)
+      ∵ suffices ! _ (ends-at 𝓤 H A f.ended stayed (f.clauses 𝓤 H A mem run) W (
+        (
+          (κ₁, (κ, (κ₃, tt))),
+          (
+            q₁,
+            (
+              q,
+              (q₃, tt),
+            ),
+          ),
+          tt,
+          x,
+          at,
+        ),
+        tt,
+      )
       (N′.lowered r) r (us, (zs, (tt, tt))) (tt, (l, (tt, tt))))
       $ says ! e $ split ! $ move ! (1 ∷ []) $ split ! $ move ! (1 ∷ []) $ drop ! $ move ! (0 ∷ 2 ∷ []) $ join !
       $ move ! (1 ∷ 0 ∷ []) $ join ! $ frame ! $ nothing ! $ nothing ! $ fjoin ! $ move ! (2 ∷ 0 ∷ []) $ fjoin !
@@ -187,7 +210,8 @@ module _ {M : Type 1} (𝓤 : URA M) (H : Heap 𝓤) (A : Atoms 𝓤) (W : Given
       $ owned ! N.the-row (Is N.the-row) (LL.makes N.the-type N′.the-plain 𝓤 H A) r _ ir $ move ! (1 ∷ 0 ∷ []) $ done !
 
   module _ (C : Calls 𝓤 H) (Λ : Loops 𝓤 H) (fm : FmC 𝓤 H (W .laws) C)
-      (known-ask : Triple 𝓤 (C #requests·received) (Asking 𝓤 H A mem run)) (known-call : Triple 𝓤 (C #wall·call) (Calling 𝓤 H A mem run)) where
+      (known-ask : Triple 𝓤 (C #requests·received) (Asking 𝓤 H A mem run)) (known-call : Triple 𝓤 (C #wall·call)
+      (Calling 𝓤 H A mem run)) where
     -- the locals, with their types spelled out
     abbrev Locals : List Local
     Locals =
@@ -202,17 +226,22 @@ module _ {M : Type 1} (𝓤 : URA M) (H : Heap 𝓤) (A : Atoms 𝓤) (W : Given
 
     inside : Seq (Go {0}) W Entry (allocs Locals (λ E. params′ E (vptr b₁ o₁ ∷ s ∷ s₃ ∷ []) (runs C Λ E t-1 (atRet E Post))))
     inside =
-        alloc1 ! (λ l₀. alloc1 ! (λ l₁. alloc1 ! (λ l₂. alloc1 ! (λ l₃. alloc1 ! (λ l₄. alloc1 ! (λ l₅. alloc1 ! (λ l₆. alloc1 ! (λ l₇.
+        alloc1 ! (λ l₀. alloc1 ! (λ l₁. alloc1 ! (λ l₂. alloc1 ! (λ l₃. alloc1 ! (λ l₄. alloc1 ! (λ l₅. alloc1 !
+        (λ l₆. alloc1 ! (λ l₇.
         alloc0 ! $ params1 ! $ pass1 ! (init ! 12 refl (tt, tt))
-        $ pass1 ! (init ! 10 refl (tt, (tt, (record { fits = gn .0 }, tt)))) $ pass1 ! (init ! 8 refl (tt, (tt, (record { fits = gm .0 }, tt)))) $ pass0 !
+        $ pass1 ! (init ! 10 refl (tt, (tt, (record { fits = gn .0 }, tt))))
+        $ pass1 ! (init ! 8 refl (tt, (tt, (record { fits = gm .0 }, tt)))) $ pass0 !
         -- what is asked: the message is unpacked
         $ move ! (17 ∷ []) $ fsplit ! $ move ! (1 ∷ []) $ fsplit ! $ move ! (1 ∷ []) $ fsplit ! $ move ! (1 ∷ []) $ drop !
         $ move ! (19 ∷ []) $ split ! $ move ! (1 ∷ []) $ split ! $ move ! (1 ∷ 3 ∷ [])
         $ use2 W (raw (Asking 𝓤 H A mem run .pre to-ask)) goes-ask
-        $ calls-at ! fm (Asking 𝓤 H A mem run) known-ask to-ask (and-then ! (load ! (from ! (stop !)) (look ! 13 refl)) (no-more !)) (λ w.
+        $ calls-at ! fm (Asking 𝓤 H A mem run) known-ask to-ask (and-then ! (load ! (from ! (stop !))
+        (look ! 13 refl)) (no-more !)) (λ w.
         use1 W (later (some (λ (a : Ask). ((‵ (flft κ₃ q₃) ⊛ ‵ ftrue) ⊛ ‵ (K.the-row .own a (w ∷ [])))
-        ⊛ raw (ensured 𝓤 H A ask.ended (ask.clauses 𝓤 H A mem run) (κ₃, tt) (x₃, tt) tt a)))) (id⊢ 𝓤 _) $ await ! tt $ pick ! (λ a.
-        split ! $ move ! (1 ∷ []) $ use1 W (raw (fact 𝓤 (a ≡ asksReply (unpack ms)))) (ask-said a) $ heard ! (a ≡ asksReply (unpack ms)) (λ ea.
+        ⊛ raw (ensured 𝓤 H A ask.ended (ask.clauses 𝓤 H A mem run) (κ₃, tt) (x₃, tt) tt a)))) (id⊢ 𝓤 _)
+        $ await ! tt $ pick ! (λ a.
+        split ! $ move ! (1 ∷ []) $ use1 W (raw (fact 𝓤 (a ≡ asksReply (unpack ms)))) (ask-said a)
+        $ heard ! (a ≡ asksReply (unpack ms)) (λ ea.
         split ! $ move ! (1 ∷ []) $ facts ! K.the-row (Is K.the-row) (shows 𝓤 H A K.the-row) a (w ∷ []) (λ ik.
         land ! (from ! (stop !)) (init ! 11 refl (LL.lawful K.the-type K′.the-laws 𝓤 H A W .typed a _ ik .0))
         $ rewrite ! 11 (λ (u : Val). ‵ (fat fullShare K′.mir l₄ 0 u)) (ap only (K′.lowers .val-is a (w ∷ []) ik)) refl
@@ -221,7 +250,8 @@ module _ {M : Type 1} (𝓤 : URA M) (H : Heap 𝓤) (A : Atoms 𝓤) (W : Given
         $ assigns ! (addr ! (from ! (fld ! refl (hop ! (look-in ! 15 (sub ! 0 refl (whole !))) (stop !))))) (from ! (stop !))
         (init ! 7 refl (tt, tt))
         $ assigns ! (agg ! (and-then ! (load ! (from ! (stop !)) (look ! 7 refl))
-        (and-then ! (load ! (from ! (fld ! refl (stop !))) (look-in ! 15 (sub ! 1 refl (whole !)))) (no-more !)))) (from ! (stop !))
+        (and-then ! (load ! (from ! (fld ! refl (stop !))) (look-in ! 15 (sub ! 1 refl (whole !)))) (no-more !))))
+        (from ! (stop !))
         (init ! 5 refl (tt, (tt, (record { fits = gn .0 }, tt))))
         $ nothing ! $ move ! (2 ∷ 0 ∷ []) $ join ! $ move ! (2 ∷ 0 ∷ []) $ join ! $ move ! (0 ∷ 3 ∷ 2 ∷ [])
         $ use3 W (raw (Calling 𝓤 H A mem run .pre (to-call a))) (goes-call a (spelled a w ik))
@@ -234,7 +264,8 @@ module _ {M : Type 1} (𝓤 : URA M) (H : Heap 𝓤) (A : Atoms 𝓤) (W : Given
         $ use1 W (some (λ (us : List ℕ × (List Record × (Unit {0} × Unit {0}))).
         ‵ (lasts call.ended (κ₁, (κ, tt)) (call-arg a) us) ⊛ raw (fact 𝓤 (Called a r (us .0) (us .1 .0))))) (id⊢ 𝓤 _)
         $ pick ! (λ us. split ! $ move ! (1 ∷ []) $ heard ! (Called a r (us .0) (us .1 .0)) (λ er.
-        fsplit ! $ move ! (1 ∷ []) $ fsplit ! $ fsplit ! $ move ! (1 ∷ []) $ feqL ! (λ l. move ! (3 ∷ []) $ split ! $ move ! (1 ∷ [])
+        fsplit ! $ move ! (1 ∷ []) $ fsplit ! $ fsplit ! $ move ! (1 ∷ []) $ feqL ! (λ l. move ! (3 ∷ []) $ split !
+        $ move ! (1 ∷ [])
         $ facts ! N.the-row (Is N.the-row) (shows 𝓤 H A N.the-row) r (v ∷ []) (λ ir.
         land ! (from ! (stop !)) (init ! 19 refl (LL.lawful N.the-type N′.the-laws 𝓤 H A W .typed r _ ir .0))
         $ rewrite ! 19 (λ (u : Val). ‵ (fat fullShare N′.mir l₀ 0 u)) (ap only (N′.lowers .val-is r (v ∷ []) ir)) refl
@@ -244,7 +275,8 @@ module _ {M : Type 1} (𝓤 : URA M) (H : Heap 𝓤) (A : Atoms 𝓤) (W : Given
         $ move ! (11 ∷ 12 ∷ []) $ free1 ! $ move ! (9 ∷ 10 ∷ []) $ free1 ! $ move ! (7 ∷ 8 ∷ []) $ free1 !
         $ move ! (5 ∷ 6 ∷ []) $ free1 ! $ free0 !
         $ keep ! (0 ∷ 4 ∷ 3 ∷ 1 ∷ [])
-        $ by ! (exits r (us .0) (us .1 .0) (answered r v ir) (er ∙ ap (calling ys (getD ws 0 0)) ea ∙ asked-reply ys (getD ws 0 0) (unpack ms)) l)))))))))))))))))))
+        $ by ! (exits r (us .0) (us .1 .0) (answered r v ir) (er ∙ ap (calling ys (getD ws 0 0)) ea ∙ asked-reply ys
+        (getD ws 0 0) (unpack ms)) l)))))))))))))))))))
       where
         spelled : (a : Ask) (w : Val) → Is K.the-row a (w ∷ []) → Is K.the-row a (K′.lowered a ∷ [])
         spelled a w ik = subst (Is K.the-row a) (K′.lowers .val-is a (w ∷ []) ik) ik
@@ -252,19 +284,32 @@ module _ {M : Type 1} (𝓤 : URA M) (H : Heap 𝓤) (A : Atoms 𝓤) (W : Given
         answered : (r : Answer) (v : Val) → Is N.the-row r (v ∷ []) → Is N.the-row r (N′.lowered r ∷ [])
         answered r v ir = subst (Is N.the-row r) (N′.lowers .val-is r (v ∷ []) ir) ir
 
-    walk : ent 𝓤 (onEntry 𝓤 H A f.signature (κ₁, (κ, (κ₃, tt))) (q₁, (q, (q₃, tt))) x at) (WpFn 𝓤 H C Λ code.function (vptr b₁ o₁ ∷ s ∷ s₃ ∷ []) Post)
+    walk : ent 𝓤 (onEntry 𝓤 H A f.signature (κ₁, (κ, (κ₃, tt))) (q₁, (q, (q₃, tt))) x at)
+        (WpFn 𝓤 H C Λ code.function (vptr b₁ o₁ ∷ s ∷ s₃ ∷ []) Post)
     walk = qed W Entry ∵ enter ! C Λ code.function (vptr b₁ o₁ ∷ s ∷ s₃ ∷ []) _ $ inside
 
-module _ {M : Type 1} (𝓤 : URA M) (H : Heap 𝓤) (A : Atoms 𝓤) (W : Given 𝓤 H A) (mem : Memory → SProp 𝓤) (run : Routine → Fun 𝓤) where
+module _ {M : Type 1} (𝓤 : URA M) (H : Heap 𝓤) (A : Atoms 𝓤) (W : Given 𝓤 H A) (mem : Memory
+    → SProp 𝓤) (run : Routine → Fun 𝓤) where
   walks : (C : Calls 𝓤 H) (Λ : Loops 𝓤 H) → FmC 𝓤 H (W .laws) C → Triple 𝓤 (C #requests·received) (Asking 𝓤 H A mem run)
       → Triple 𝓤 (C #wall·call) (Calling 𝓤 H A mem run)
       → Walks 𝓤 H A f.ended stayed (WpFn 𝓤 H C Λ code.function) (f.clauses 𝓤 H A mem run)
   walks C Λ fm k₁ k₂ =
       walked 𝓤 H A f.ended stayed (f.clauses 𝓤 H A mem run) (WpFn 𝓤 H C Λ code.function)
       (λ κs. (ptr-vals, (slice-vals, (slice-vals, tt))))
-      (λ κs. (mut-tells (named 0) (κs .0) State, (mut-slice-tells (named 1) (κs .1 .0) R, (shr-slice-tells (named 2) (κs .1 .1 .0) u32, tt))))
+      (λ κs. (
+        mut-tells (named 0) (κs .0) State,
+        (
+          mut-slice-tells (named 1) (κs .1 .0) R,
+          (
+            shr-slice-tells (named 2)
+                (κs .1 .1 .0) u32,
+            tt,
+          ),
+        ),
+      ))
       (λ κs qs bounds a g are. via 𝓤 _ (fst∗ 𝓤 _ (emp 𝓤))
-      (walk 𝓤 H A W mem run (κs .0) (κs .1 .0) (κs .1 .1 .0) (qs .0) (qs .1 .0) (qs .1 .1 .0) (a .0 .ptr .0) (a .0 .ptr .1) (a .0 .name)
+      (walk 𝓤 H A W mem run (κs .0) (κs .1 .0) (κs .1 .1 .0) (qs .0) (qs .1 .0) (qs .1 .1 .0) (a .0 .ptr .0)
+      (a .0 .ptr .1) (a .0 .name)
       (a .0 .now) (a .1 .0 .ptr .0) (a .1 .0 .ptr .1) (a .1 .0 .name) (a .1 .0 .now) (a .1 .1 .0 .ptr .0) (a .1 .1 .0 .ptr .1)
       (a .1 .1 .0 .name) (a .1 .1 .0 .now) (are .1 .0 .0 .1) (are .1 .1 .0 .0 .1) C Λ fm k₁ k₂))
 
@@ -275,7 +320,14 @@ meets : {M : Type 1} (𝓤 : URA M) (H : Heap 𝓤) (A : Atoms 𝓤) (W : Given 
 meets 𝓤 H A W mem run 𝓣 k₁ k₂ =
     walk-meets 𝓤 H A f.ended stayed W (
       goes-gave-ref 𝓤 H A W 3 0 tt (plain (λ _. State)),
-      (goes-gave-slice 𝓤 H A W 3 1 tt (plain (λ _. R)), (goes-dropped 𝓤 H A W 3 (shrSliceOf (2 ∷ []) tt (plain (λ _. u32))) yes (λ κs x f. refl), tt)),
+      (
+        goes-gave-slice 𝓤 H A W 3 1 tt (plain (λ _. R)),
+        (
+          goes-dropped 𝓤 H A W 3 (shrSliceOf (2
+              ∷ []) tt (plain (λ _. u32))) yes (λ κs x f. refl),
+          tt,
+        ),
+      ),
     ) (f.clauses 𝓤 H A mem run)
     (WpFn 𝓤 H (𝓣 .C) (𝓣 .Λ) code.function) (WpFn-mono 𝓤 H (W .laws) 𝓣 code.function)
     (walks 𝓤 H A W mem run (𝓣 .C) (𝓣 .Λ) (fmOf 𝓤 H (W .laws) 𝓣) k₁ k₂)
@@ -286,6 +338,7 @@ guc-wall-reply-spec 𝓤 H 𝓜 𝓖 𝓡 =
     entered 𝓤 H (tripleOf 𝓤 H (𝓖 .A) f.signature (f.spec 𝓤 H (𝓖 .A) (𝓜 .mem) (𝓡 .run)))
     (tables 𝓤 H 𝓜 𝓡 code.env .C) (tables 𝓤 H 𝓜 𝓡 code.env .Λ) #guc·guc-wall-reply code.function (code.unfolded 𝓤 H 𝓜 𝓡)
     (meets 𝓤 H (𝓖 .A) (givenOf 𝓤 H 𝓜 𝓖) (𝓜 .mem) (𝓡 .run) (tablesOf 𝓤 H 𝓜 (tables 𝓤 H 𝓜 𝓡 code.env))
-    (cited 𝓤 H (Asking 𝓤 H (𝓖 .A) (𝓜 .mem) (𝓡 .run)) 𝓜 𝓡 code.env #requests·received ask-def.routine code.calls-requests·received (ask-thm.met 𝓤 H 𝓜 𝓖 𝓡))
+    (cited 𝓤 H (Asking 𝓤 H (𝓖 .A) (𝓜 .mem)
+    (𝓡 .run)) 𝓜 𝓡 code.env #requests·received ask-def.routine code.calls-requests·received (ask-thm.met 𝓤 H 𝓜 𝓖 𝓡))
     (cited 𝓤 H (Calling 𝓤 H (𝓖 .A) (𝓜 .mem) (𝓡 .run)) 𝓜 𝓡 code.env #wall·call call-def.routine code.calls-wall·call
     (call-thm.met 𝓤 H 𝓜 𝓖 𝓡)))
