@@ -19,9 +19,9 @@
  * - memcpy and memset with their usual meaning. No archive asks for more.
  * - The archive that fits: libguc-kernel.a where SSE, the red zone or indirect jumps are not
  *   allowed; libguc.a, libguc-fast.a or libguc-v3.a (AVX2) elsewhere.
- * - Pointers to what is there: so many dwords or bytes as their count says, dwords aligned to 4
- *   bytes. With count 0 nothing is touched, and NULL will do.
- * - Slices, sides and descriptor: none overlaps another where one of them is written. Where that
+ * - Pointers to what is there: so many dwords, records or bytes as their count says, dwords aligned
+ *   to 4 bytes, records and a wall to 2. With count 0 nothing is touched, and NULL will do.
+ * - Slices, sides, descriptor, wall: none overlaps another where one of them is written. Where that
  *   cannot be promised link libguc.a: the other archives are compiled on the strength of it.
  * - Ordinary memory. The code makes plain loads and stores of any width.
  * - One call at a time on one side. The two sides of a channel may run on different processors:
@@ -359,8 +359,9 @@ GUC_ANSWER struct guc_unpacked guc_unpack(const uint32_t *msg, size_t len);
  * Nothing is sent or received here: open, send a request with the fence that was given, receive,
  * and hand each received message to guc_wall_reply.
  *
- * Every call but guc_wall_fresh judges the whole table first: another number of records, or two
- * open records with one fence, is 35. Each record is read once, and at most one is written. */
+ * An opening or a reply judges the whole table first: another number of records, or two open
+ * records with one fence, is 35. It takes each record into a copy of its own once, judges and uses
+ * that, and writes at most one record. */
 
 /* Makes a table fresh, whatever it holds: every record all zeros, the last fence 65,535.
  * Answers 0, or 35 for another number of records.
@@ -380,7 +381,7 @@ GUC_ANSWER struct guc_wall_answer guc_wall_open(struct guc_wall *wall, struct gu
  * its count, which stops at 65,535, and leaves it open. The origin is not asked.
  * Answers 0 with the kind, the request's action and its count, or 35, 4 (malformed) or 27 (no open
  * request has the fence, or the message is a request, an event or a fast request).
- * Changes that record on 0. */
+ * Changes that record on 0; wall is not touched. */
 GUC_ANSWER struct guc_wall_answer guc_wall_reply(struct guc_wall *wall, struct guc_record *table,
     size_t records, const uint32_t *msg, size_t msg_len);
 

@@ -26,6 +26,9 @@ void make_message(uint32_t *msg, size_t len, uint32_t fence);
 /* Sides that make whole calls only, moves all at once, sentences. */
 void walk_sides(void);
 
+/* A wall of requests. */
+void walk_walls(void);
+
 /* Firmware. */
 void walk_blobs(void);
 

@@ -161,6 +161,13 @@ static void all_at_once(void)
 	lone_header(&r);
 }
 
+/* Numbers that no answer has. */
+static int is_none(uint32_t k)
+{
+	return (k > GUC_DUPLICATE_ENTRY && k < GUC_TABLE_FULL) ||
+	       (k > GUC_NO_REQUEST && k < GUC_BAD_TABLE) || (k > GUC_BAD_TABLE && k < GUC_NO_ROOM);
+}
+
 /* Each number has a sentence, and no two the same. */
 static void sentences(void)
 {
@@ -168,7 +175,7 @@ static void sentences(void)
 	uint32_t k, other;
 
 	for (k = 0; k <= GUC_NO_SUCH; k++) {
-		if (k > GUC_DUPLICATE_ENTRY && k < GUC_NO_ROOM) {
+		if (is_none(k)) {
 			CHECK(strcmp(guc_strerror(k), none) == 0);
 			continue;
 		}

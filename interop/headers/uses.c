@@ -11,6 +11,8 @@ struct uses {
 	struct guc_whole_receiver whole_receiver;
 	struct guc_sender sender;
 	struct guc_receiver receiver;
+	struct guc_wall wall;
+	struct guc_record table[GUC_RECORDS_MAX];
 	uint32_t ring[GUC_RING_MIN], msg[GUC_MESSAGE_DWORDS], out[GUC_MESSAGE_DWORDS];
 	uint8_t blob[256], dst[256];
 };
@@ -20,6 +22,7 @@ uint32_t use_steps(struct uses *u);
 uint32_t use_live(struct uses *u);
 uint32_t use_live_steps(struct uses *u);
 uint32_t use_messages(struct uses *u);
+uint32_t use_wall(struct uses *u);
 uint32_t use_firmware(struct uses *u);
 
 uint32_t use_whole(struct uses *u)
@@ -90,6 +93,20 @@ uint32_t use_messages(struct uses *u)
 	u->msg[0] = two.header;
 	u->msg[1] = two.word;
 	return guc_strerror(guc_unpack(u->msg, 2).code)[0] == 'a';
+}
+
+uint32_t use_wall(struct uses *u)
+{
+	struct guc_wall_answer a;
+	uint32_t sum = 0;
+
+	sum += guc_wall_fresh(&u->wall, u->table, GUC_RECORDS_MAX);
+	a = guc_wall_open(&u->wall, u->table, GUC_RECORDS_MAX, 0x10);
+	sum += a.code + a.fence;
+	a = guc_wall_reply(&u->wall, u->table, GUC_RECORDS_MAX, u->msg, 2);
+	sum += a.code + a.kind + a.action + a.count;
+	sum += 0u + u->table[0].open + u->table[0].fence + u->table[0].action + u->table[0].count;
+	return sum + (guc_wall_age(u->wall.last, GUC_FIRST_LAST) < 0);
 }
 
 uint32_t use_firmware(struct uses *u)

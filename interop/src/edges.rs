@@ -8,6 +8,8 @@ pub mod images;
 pub mod messages;
 pub mod names;
 pub mod places;
+mod records;
+pub mod walls;
 
 use crate::functions::Fun;
 use crate::sets::Set;
@@ -51,6 +53,12 @@ pub enum Edge {
     PackNothing,
     PackType,
     PackWide,
+    RecordsNone,
+    RecordsMost,
+    FenceTwice,
+    FreeRecords,
+    ReplyFence,
+    ReplyType,
     Which,
     Room,
     CssBytes,
@@ -129,7 +137,9 @@ const GOING_ON: &[Fun] =
 const STORING: &[Fun] = &[SendStore, SendStoreAll, SendPublish];
 const COPYING: &[Fun] = &[ReceiveCopy, ReceiveCopyAll, ReceivePublish];
 const LAYING: &[Fun] = &[ReceivePublish, Receive, WholeReceive];
-const MESSAGES: &[Fun] = &[SendLook, Send, WholeSend, Unpack];
+const MESSAGES: &[Fun] = &[SendLook, Send, WholeSend, Unpack, WallReply];
+const TABLES: &[Fun] = &[WallFresh, WallOpen, WallReply];
+const JUDGED: &[Fun] = &[WallOpen, WallReply];
 const PARTS: &[Fun] = &[CssPart, CssCopy, HucPart, HucCopy];
 const COPIES: &[Fun] = &[CssCopy, CpdCopy, HucCopy];
 const IMAGES: &[Fun] =
@@ -151,7 +161,7 @@ const fn row(
 
 /// All of them, in the order of `Edge`.
 #[rustfmt::skip]
-pub const BOUNDARIES: [Boundary; 52] = [
+pub const BOUNDARIES: [Boundary; 58] = [
     row(Edge::LeastN, "N", ["1,023", "1,024"], (2, BELOW), CHANNEL),
     row(Edge::MostN, "N", ["16,384", "16,385"], (2, ABOVE), CHANNEL),
     row(Edge::NextN, "N", ["16,384", "17,408"], (2, ABOVE), CHANNEL),
@@ -185,6 +195,12 @@ pub const BOUNDARIES: [Boundary; 52] = [
     row(Edge::PackNothing, "second field where none is", ["0", "1"], (14, ABOVE), &[Pack]),
     row(Edge::PackType, "type to pack", ["known", "4"], (101, ABOVE), &[Pack]),
     row(Edge::PackWide, "type to pack", ["7", "8"], (101, ABOVE), &[Pack]),
+    row(Edge::RecordsNone, "records of a table", ["0", "1"], (35, BELOW), TABLES),
+    row(Edge::RecordsMost, "records of a table", ["256", "257"], (35, ABOVE), TABLES),
+    row(Edge::FenceTwice, "open records of one fence", ["1", "2"], (35, ABOVE), JUDGED),
+    row(Edge::FreeRecords, "free records", ["0", "1"], (26, BELOW), &[WallOpen]),
+    row(Edge::ReplyFence, "open requests replied to", ["0", "1"], (27, BELOW), &[WallReply]),
+    row(Edge::ReplyType, "type with an open fence", ["a reply", "another"], (27, ABOVE), &[WallReply]),
     row(Edge::Which, "component", ["3", "4"], (101, ABOVE), PARTS),
     row(Edge::Room, "room for a copy", ["length - 1", "length"], (100, BELOW), COPIES),
     row(Edge::CssBytes, "bytes of CSS", ["127", "128"], (15, BELOW), IMAGES),

@@ -21,6 +21,10 @@ pub enum Fun {
     WholeReceive,
     Pack,
     Unpack,
+    WallFresh,
+    WallOpen,
+    WallReply,
+    WallAge,
     CssAnswer,
     CssPart,
     CssCopy,
@@ -35,8 +39,8 @@ pub enum Fun {
 }
 
 /// Each function with its name and the numbers it can answer. Number 1 is for a
-/// descriptor that C can't lend. The interface's version is no number.
-pub const FUNCTIONS: [(Fun, &str, &[u32]); 28] = [
+/// descriptor that C can't lend. The interface's version and an age are no numbers.
+pub const FUNCTIONS: [(Fun, &str, &[u32]); 32] = [
     (Fun::Interface, "guc_interface_2", &[]),
     (Fun::Open, "guc_open", &[0, 2]),
     (Fun::SendLook, "guc_send_look", &[0, 2, 3, 4, 6, 7, 8, 10]),
@@ -54,6 +58,10 @@ pub const FUNCTIONS: [(Fun, &str, &[u32]); 28] = [
     (Fun::WholeReceive, "guc_whole_receive", &[0, 2, 3, 5, 6, 7, 8, 9, 11, 13]),
     (Fun::Pack, "guc_pack", &[0, 14, 101]),
     (Fun::Unpack, "guc_unpack", &[0, 4]),
+    (Fun::WallFresh, "guc_wall_fresh", &[0, 35]),
+    (Fun::WallOpen, "guc_wall_open", &[0, 26, 35]),
+    (Fun::WallReply, "guc_wall_reply", &[0, 4, 27, 35]),
+    (Fun::WallAge, "guc_wall_age", &[]),
     (Fun::CssAnswer, "guc_css_answer", &[0, 15, 16, 17]),
     (Fun::CssPart, "guc_css_part", &[0, 15, 16, 17, 101]),
     (Fun::CssCopy, "guc_css_copy", &[0, 15, 16, 17, 100, 101]),
@@ -73,6 +81,7 @@ pub enum Slice {
     Ring,
     Message,
     Output,
+    Table,
     Blob,
     Name,
     Destination,
@@ -83,7 +92,7 @@ use Slice::*;
 
 /// Every slice of every function: each must once be NULL with count 0.
 #[rustfmt::skip]
-pub const SLICES: [(Fun, Slice); 37] = [
+pub const SLICES: [(Fun, Slice); 41] = [
     (Open, Ring), (WholeOpen, Ring),
     (SendLook, Ring), (SendLook, Message),
     (SendStore, Ring), (SendStoreAll, Ring), (SendPublish, Ring),
@@ -92,29 +101,30 @@ pub const SLICES: [(Fun, Slice); 37] = [
     (ReceivePublish, Ring), (ReceivePublish, Output),
     (Receive, Ring), (Receive, Output), (WholeReceive, Ring), (WholeReceive, Output),
     (Unpack, Message),
+    (WallFresh, Table), (WallOpen, Table), (WallReply, Table), (WallReply, Message),
     (CssAnswer, Blob), (CssPart, Blob), (CssCopy, Blob), (CssCopy, Destination), (CssVersion, Blob),
     (CpdPart, Blob), (CpdPart, Name), (CpdCopy, Blob), (CpdCopy, Name), (CpdCopy, Destination),
     (ManifestVersion, Blob),
     (HucAnswer, Blob), (HucPart, Blob), (HucCopy, Blob), (HucCopy, Destination), (HucVersion, Blob),
 ];
 
-/// The numbers 0 to 22, 100 and 101, each with a place.
-pub const NUMBERS: usize = 25;
+/// The numbers that are answers, each with a place. Those from 23 to 35 that are not
+/// here belong to change requests to come.
+#[rustfmt::skip]
+const ANSWERS: [u32; 28] = [
+    0, 1, 2, 3, 4, 5, 6, 7, 8, 9, 10, 11, 12, 13, 14, 15, 16, 17, 18, 19, 20, 21, 22, 26, 27, 35,
+    100, 101,
+];
+
+/// How many they are.
+pub const NUMBERS: usize = ANSWERS.len();
 
 /// The place of a number; none for a number that is no answer.
 pub fn place(code: u32) -> Option<usize> {
-    match code {
-        0..=22 => Some(code as usize),
-        100 | 101 => Some(code as usize - 77),
-        _ => None,
-    }
+    ANSWERS.iter().position(|answer| *answer == code)
 }
 
 /// The number at a place.
 pub fn number(place: usize) -> u32 {
-    if place < 23 {
-        place as u32
-    } else {
-        place as u32 + 77
-    }
+    ANSWERS[place]
 }

@@ -1,5 +1,5 @@
 //! A safe face of libguc.a: sides and slices in, structs out. All unsafe code of
-//! this project is here and in three files of `guc/`.
+//! this project is here and in four files of `guc/`.
 //!
 //! Every call below is sound for the same reasons: the pointers come from live
 //! references, so they are aligned, as long as the counts say and free of overlap
@@ -40,9 +40,11 @@ pub mod constants;
 pub mod pages;
 mod raw;
 mod sides;
+mod wall;
 
-pub use raw::{Copied, Css, Manifest, Packed, Part, Received, Unpacked, Version};
+pub use raw::{Copied, Css, Manifest, Packed, Part, Received, Unpacked, Version, WallAnswer};
 pub use sides::{Descriptor, Dwords, Receiver, Sender, WholeReceiver, WholeSender};
+pub use wall::{Record, Wall, RECORD_WORDS};
 
 /// Elements that are only read; none of them by NULL where it is `None`.
 pub type In<'a, T> = Option<&'a [T]>;
@@ -155,6 +157,25 @@ pub fn pack(fields: [u32; 6]) -> Packed {
 pub fn unpack(msg: In<u32>) -> Unpacked {
     let (m, ml) = at(msg);
     unsafe { raw::guc_unpack(m, ml) }
+}
+
+pub fn wall_fresh(wall: &mut Wall, table: Out<Record>) -> u32 {
+    let (t, n) = at_mut(table);
+    unsafe { raw::guc_wall_fresh(wall, t, n) }
+}
+
+pub fn wall_open(wall: &mut Wall, table: Out<Record>, action: u16) -> WallAnswer {
+    let (t, n) = at_mut(table);
+    unsafe { raw::guc_wall_open(wall, t, n, action) }
+}
+
+pub fn wall_reply(wall: &mut Wall, table: Out<Record>, msg: In<u32>) -> WallAnswer {
+    let ((t, n), (m, ml)) = (at_mut(table), at(msg));
+    unsafe { raw::guc_wall_reply(wall, t, n, m, ml) }
+}
+
+pub fn wall_age(fence: u16, newest: u16) -> i32 {
+    unsafe { raw::guc_wall_age(fence, newest) }
 }
 
 pub fn css_answer(blob: In<u8>) -> Css {

@@ -42,6 +42,12 @@ impl Guard for u32 {
     }
 }
 
+impl Guard for u16 {
+    fn guard(start: u32, place: usize) -> u16 {
+        (start as u16).wrapping_add((place as u16).wrapping_mul(0x9E37))
+    }
+}
+
 impl Guard for u8 {
     fn guard(start: u32, place: usize) -> u8 {
         (start as u8).wrapping_add((place as u8).wrapping_mul(0x9D))
@@ -139,6 +145,11 @@ impl<T: Guard> Lent<T> {
 
 /// Dwords to lend.
 pub fn words(rng: &mut Rng, contents: &[u32]) -> Lent<u32> {
+    Lent::new(rng, contents)
+}
+
+/// 16-bit words to lend.
+pub fn halves(rng: &mut Rng, contents: &[u16]) -> Lent<u16> {
     Lent::new(rng, contents)
 }
 

@@ -4,6 +4,7 @@
 
 #![deny(unsafe_code)]
 
+pub mod ages;
 pub mod archive;
 pub mod big;
 pub mod calls;
@@ -20,3 +21,5 @@ pub mod sets;
 pub mod sweeps;
 pub mod table;
 pub mod tally;
+pub mod wall_lists;
+pub mod walls;

@@ -4,7 +4,7 @@
 
 use crate::same::Outcome;
 use crate::tally::Tally;
-use crate::{big, calls, firmware, lists, messages, sweeps};
+use crate::{big, calls, firmware, lists, messages, sweeps, wall_lists, walls};
 use model::generate::Rng;
 use std::panic::{catch_unwind, AssertUnwindSafe};
 use std::sync::atomic::{AtomicBool, AtomicU64, Ordering};
@@ -28,7 +28,7 @@ macro_rules! group {
     };
 }
 
-pub const GROUPS: [Group; 11] = [
+pub const GROUPS: [Group; 14] = [
     group!("calls", 235_000, calls::check, "one channel call"),
     group!("lists", 10_000, lists::check, "a list of operations, both sides"),
     group!("tampered", 10_000, lists::check_tampered, "a list with foreign writes"),
@@ -40,6 +40,9 @@ pub const GROUPS: [Group; 11] = [
     group!("big", 150, big::check, "a blob up to 19 MiB"),
     group!("channels", 60, sweeps::check_channel, "all sweeps of the channel"),
     group!("firmwares", 100, sweeps::check_firmware, "all sweeps of firmware"),
+    group!("walls", 2_000, wall_lists::check, "a list from a fresh table of requests"),
+    group!("tables", 20_000, walls::check_table, "calls on a table of any records"),
+    group!("records", 20, sweeps::check_wall, "all sweeps of a wall, and ages"),
 ];
 
 impl Group {

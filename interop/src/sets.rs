@@ -3,6 +3,7 @@
 use crate::edges::calls::TWO_OWNS;
 use crate::edges::names::{ONCE, SOUGHT, TWICE};
 use crate::edges::places::{place_name, places, COPIED, STORED, WHOLE};
+use crate::edges::walls::{self, AGES, COUNTS, DIRT, FLAGGED, KINDS, LASTS, NEAR, ORDERS};
 use crate::functions::SLICES;
 use crate::guc::constants::*;
 
@@ -48,6 +49,24 @@ pub enum Set {
     TwoOwn,
     ListSides,
     Null,
+    // Of walls. Those of places, counts and origins have their members for each kind
+    // of reply, `TableTwice`, `TableNear` and `FenceBit` for openings and replies.
+    Records,
+    TableTwice,
+    TableNear,
+    FenceBit,
+    Orders,
+    Skipped,
+    LastFence,
+    FreePlace,
+    Dirt,
+    FlagBit,
+    ReplyOrigin,
+    ReplyPlace,
+    ReplyCount,
+    NoReply,
+    ListReply,
+    Age,
     // From here on the members are `TYPES`, of accepted messages.
     Packed,
     Unpacked,
@@ -64,6 +83,12 @@ pub enum Set {
 /// Kinds of the sender and the receiver in lists.
 const SIDES: [&str; 4] =
     ["both of 260 words", "receiver of two", "sender of two", "both of two words"];
+
+/// Calls of a wall that judge the whole table.
+const JUDGED: [&str; 2] = ["opening", "reply"];
+
+/// Origins of a reply.
+const ORIGINS: [&str; 2] = ["host", "GuC"];
 
 /// The types of the table by name. Not the model's list: that could lack one.
 pub const TYPES: [(u32, &str); 7] = [
@@ -84,12 +109,26 @@ impl Set {
 
     /// A member by name.
     fn member(self, index: usize) -> String {
-        let of = |words: &[&str]| {
-            format!("{}: {}", SOUGHT[index / words.len()], words[index % words.len()])
+        let of = |each: &[&str], words: &[&str]| {
+            format!("{}: {}", each[index / words.len()], words[index % words.len()])
         };
         match self {
-            Set::Once => of(&ONCE),
-            Set::Twice => of(&TWICE),
+            Set::Once => of(&SOUGHT, &ONCE),
+            Set::Twice => of(&SOUGHT, &TWICE),
+            Set::TableTwice => of(&JUDGED, &walls::TWICE),
+            Set::TableNear => of(&JUDGED, &NEAR),
+            Set::Orders => ORDERS[index].to_string(),
+            Set::LastFence => LASTS[index].to_string(),
+            Set::Dirt => DIRT[index].to_string(),
+            Set::FlagBit => format!("{}: bit {}", FLAGGED[index / 16], index % 16),
+            Set::ReplyOrigin => of(&KINDS, &ORIGINS),
+            Set::ReplyPlace => format!("{}: {}", KINDS[index / 256], index % 256),
+            Set::ReplyCount => {
+                format!("{}: {}", KINDS[index / COUNTS.len()], COUNTS[index % COUNTS.len()])
+            }
+            Set::NoReply => of(&["request", "event", "fast request"], &ORIGINS),
+            Set::ListReply => KINDS[index].to_string(),
+            Set::Age => AGES[index].to_string(),
             Set::SendPlace | Set::ReceivePlace => place_name(&WHOLE, index),
             Set::WholeSendPlace | Set::WholeReceivePlace => place_name(&WHOLE, index),
             Set::StorePlace => place_name(&STORED, index),
@@ -104,7 +143,7 @@ impl Set {
 }
 
 /// Each with its name and how many members it has, in the order of `Set`.
-pub const SETS: [(Set, &str, usize); 46] = [
+pub const SETS: [(Set, &str, usize); 62] = [
     (Set::HeaderLength, "header length H, 0 to 255", 256),
     (Set::NameBit, "bit of an entry's name that alone is not the name sought", 96),
     (Set::ManifestBit, "bit of an entry's name that alone is not HUCP.man", 96),
@@ -141,6 +180,22 @@ pub const SETS: [(Set, &str, usize); 46] = [
     (Set::TwoOwn, "own offsets of sides of two words", 2 * TWO_OWNS.len()),
     (Set::ListSides, "kinds of sides in lists", SIDES.len()),
     (Set::Null, "slices of functions that were NULL with count 0", SLICES.len()),
+    (Set::Records, "records of a table, 1 to 256 (less 1): fresh, opening, reply", 3 * 256),
+    (Set::TableTwice, "ways in which a fence is open twice", 2 * walls::TWICE.len()),
+    (Set::TableNear, "what is no fence open twice", 2 * NEAR.len()),
+    (Set::FenceBit, "bit in which alone two open fences differ", 2 * 16),
+    (Set::Orders, "numbers of a wall that apply together", ORDERS.len()),
+    (Set::Skipped, "open fences skipped, 0 to 255: before 65,535, around it", 2 * 256),
+    (Set::LastFence, "last fences at an opening", LASTS.len()),
+    (Set::FreePlace, "place of the lowest free record", 256),
+    (Set::Dirt, "what free records held", DIRT.len()),
+    (Set::FlagBit, "bit of `open` that alone is set", 16 * FLAGGED.len()),
+    (Set::ReplyOrigin, "kinds of replies, by origin", KINDS.len() * ORIGINS.len()),
+    (Set::ReplyPlace, "place of the record replied to, by kind", KINDS.len() * 256),
+    (Set::ReplyCount, "counts before a reply, by kind", KINDS.len() * COUNTS.len()),
+    (Set::NoReply, "types that are no reply, with an open fence, by origin", 3 * ORIGINS.len()),
+    (Set::ListReply, "kinds of replies in lists of a wall", KINDS.len()),
+    (Set::Age, "ages of fences", AGES.len()),
     (Set::Packed, "types packed by guc_pack", TYPES.len()),
     (Set::Unpacked, "types unpacked by guc_unpack", TYPES.len()),
     (Set::SendLook, "types taken by guc_send_look", TYPES.len()),

@@ -1,13 +1,16 @@
 //! Sweeps: inputs made on purpose, one for each member of a set and each side of
 //! a boundary, so that none of them is left to chance.
 
+use crate::ages::check_ages;
 use crate::calls::check_case;
 use crate::firmware::{check_css_blob, check_directory};
 use crate::guc::{self, constants::GUC_INTERFACE};
 use crate::messages::{check_fields, check_message};
 use crate::same::{same, Outcome};
 use crate::tally::Tally;
-use model::generate::{self, CpdCase, Rng};
+use crate::wall_lists::check_around;
+use crate::walls::check_wall_case;
+use model::generate::{self, CpdCase, Rng, WallCase};
 use model::run::Case;
 
 /// All inputs of one sweep.
@@ -25,6 +28,21 @@ const CALLS: [Sweep<Case>; 10] = [
     generate::every_two,
     generate::every_left,
     generate::every_left_place,
+];
+
+/// Calls of a wall.
+const WALLS: [Sweep<WallCase>; 11] = [
+    generate::every_record_count,
+    generate::every_skip,
+    generate::every_last,
+    generate::every_free_place,
+    generate::every_reply_place,
+    generate::every_reply,
+    generate::every_reply_message,
+    generate::every_flag,
+    generate::every_fence_twice,
+    generate::every_fence_bit,
+    generate::every_order,
 ];
 
 /// CSS images.
@@ -63,6 +81,19 @@ pub fn check_channel(rng: &mut Rng, tally: &mut Tally) -> Outcome {
         check_fields(rng, tally, fields)?;
     }
     Ok(())
+}
+
+/// All sweeps of a wall, and ages; in one of six all fences one after another.
+pub fn check_wall(rng: &mut Rng, tally: &mut Tally) -> Outcome {
+    for sweep in WALLS {
+        for case in sweep(rng) {
+            check_wall_case(rng, tally, case)?;
+        }
+    }
+    if rng.chance(1, 6) {
+        check_around(rng, tally)?;
+    }
+    check_ages(rng, tally)
 }
 
 /// All sweeps of firmware; an image is also judged as the part of a directory.

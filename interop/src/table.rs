@@ -31,6 +31,9 @@ const MEANINGS: [&str; NUMBERS] = [
     "no entry of that name",
     "entry's part beyond",
     "more than one entry of that name",
+    "every record open",
+    "no open request, or no reply",
+    "table's length, or a fence open twice",
     "destination too short",
     "no such type or component",
 ];

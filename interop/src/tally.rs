@@ -1,6 +1,7 @@
 //! Counts of what the cases reached: for each function each number and each
 //! side of its boundaries, members of sets, and marks for all else.
 
+use crate::edges::walls::KIND_TYPES;
 use crate::edges::{Edge, Stands, BOUNDARIES};
 use crate::functions::{place, Fun, Slice, FUNCTIONS, NUMBERS, SLICES};
 use crate::same::Outcome;
@@ -8,7 +9,7 @@ use crate::sets::{Members, Set, TYPES};
 use std::collections::BTreeMap;
 
 /// Things that must come up beside the numbers.
-pub const MARKS: [&str; 32] = [
+pub const MARKS: [&str; 38] = [
     "guc_interface_2 answered 2",
     "output longer than 256: rest unchanged",
     "message across the ring's end",
@@ -25,6 +26,12 @@ pub const MARKS: [&str; 32] = [
     "refused copy: destination unchanged",
     "part of 0 bytes at the blob's end",
     "name lent where it lies in the blob",
+    "calls in lists of a wall",
+    "written by hand between calls of a wall",
+    "table full after a call of a list",
+    "fences given all around",
+    "calls on tables of any records",
+    "ages asked",
     "part past 16 MiB",
     "second entry behind 65,536 others",
     "call with a slice against a forbidden page",
@@ -108,6 +115,15 @@ impl Tally {
         let place = TYPES.iter().position(|(known, _)| *known == kind);
         let place = place.ok_or_else(|| format!("{set:?}: type {kind} accepted"))?;
         self.members.count(set, place);
+        Ok(())
+    }
+
+    /// Counts the kind that a reply in a list was answered with; none but the four is
+    /// one.
+    pub fn replied(&mut self, kind: u32) -> Outcome {
+        let place = KIND_TYPES.iter().position(|reply| *reply == kind);
+        let place = place.ok_or_else(|| format!("type {kind} taken as a reply"))?;
+        self.members.count(Set::ListReply, place);
         Ok(())
     }
 

@@ -32,6 +32,14 @@ const WITH_LAYS: [(Fun, Set); 6] = [
     (Fun::ReceiveCopyAll, Set::CopyLeft),
 ];
 
+/// The calls of a wall, with sets of the records that they take or find: on tables of
+/// any records, and in lists.
+const WITH_RECORDS: [(&str, Fun, Set); 3] = [
+    ("tables", Fun::WallOpen, Set::FreePlace),
+    ("tables", Fun::WallReply, Set::ReplyPlace),
+    ("walls", Fun::WallReply, Set::ListReply),
+];
+
 #[test]
 fn every_group_for_a_moment() {
     for (index, group) in GROUPS.iter().enumerate() {
@@ -43,6 +51,10 @@ fn every_group_for_a_moment() {
         for (fun, set) in WITH_TYPES {
             let typed: u64 = tally.members.counts(set).iter().sum();
             assert_eq!(typed, tally.count(fun, 0), "{}: {set:?}, each accepted", group.name);
+        }
+        for (of, fun, set) in WITH_RECORDS.into_iter().filter(|row| row.0 == group.name) {
+            let found: u64 = tally.members.counts(set).iter().sum();
+            assert!(found > 50 && found == tally.count(fun, 0), "{of}: {set:?}, each accepted");
         }
         let of_calls = ["calls", "channels"].contains(&group.name);
         for (fun, set) in WITH_LAYS.into_iter().filter(|_| of_calls) {
@@ -99,9 +111,10 @@ fn both_kinds_of_places() {
 #[test]
 fn numbers_have_places() {
     let codes: Vec<u32> = (0..NUMBERS).map(number).collect();
-    assert_eq!(codes[21..], [21, 22, 100, 101]);
+    assert_eq!(codes[21..], [21, 22, 26, 27, 35, 100, 101]);
     assert!(codes.iter().enumerate().all(|(at, code)| place(*code) == Some(at)));
-    assert_eq!((place(23), place(99), place(102)), (None, None, None));
+    let none = (23..26).chain(28..35).chain(36..100).chain([102, u32::MAX]);
+    none.for_each(|code| assert_eq!(place(code), None));
     let empty = Tally::default().missing();
     assert!(empty.iter().any(|line| line == "guc_receive never answered 9"));
     let twice = empty.iter().filter(|line| line.ends_with(" never answered 22"));

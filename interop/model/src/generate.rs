@@ -12,9 +12,11 @@ mod list;
 mod message;
 mod odd;
 mod places;
+mod records;
 mod repeats;
 mod state;
 mod twos;
+mod walls;
 mod wraps;
 
 pub use calls::{
@@ -33,12 +35,17 @@ pub use list::{operations, output};
 pub use message::{fields, malformed, message, near_malformed, well_formed, well_formed_of};
 pub use odd::{odd_channel, odd_operation, odd_sides};
 pub use places::every_place;
+pub use records::{
+    every_fence_bit, every_fence_twice, every_flag, every_free_place, every_last, every_order,
+    every_record_count, every_reply, every_reply_message, every_reply_place, every_skip,
+};
 pub use repeats::{
     every_misplaced_name, every_near_name, every_repeat, every_repeat_cut, every_repeated_length,
     every_uncounted_name,
 };
 pub use state::{break_state, random_state, receiving, sending};
 pub use twos::every_two;
+pub use walls::{any_table, half, sound_table, wall_call, wall_reply, WallCase};
 
 /// The splitmix64 generator.
 #[derive(Clone, Debug)]

@@ -1,6 +1,7 @@
 //! The archive's functions and their answers as include/guc.h declares them.
 
 use super::sides::{Descriptor, Receiver, Sender, WholeReceiver, WholeSender};
+use super::wall::{Record, Wall};
 use std::os::raw::c_char;
 
 #[repr(C)]
@@ -28,6 +29,16 @@ pub struct Unpacked {
     pub kind: u32,
     pub first: u32,
     pub second: u32,
+}
+
+#[repr(C)]
+#[derive(Clone, Copy, Debug, PartialEq, Eq)]
+pub struct WallAnswer {
+    pub code: u32,
+    pub kind: u32,
+    pub fence: u16,
+    pub action: u16,
+    pub count: u16,
 }
 
 #[repr(C)]
@@ -140,6 +151,11 @@ extern "C" {
         second: u32,
     ) -> Packed;
     pub fn guc_unpack(m: In, ml: usize) -> Unpacked;
+
+    pub fn guc_wall_fresh(w: *mut Wall, t: *mut Record, n: usize) -> u32;
+    pub fn guc_wall_open(w: *mut Wall, t: *mut Record, n: usize, action: u16) -> WallAnswer;
+    pub fn guc_wall_reply(w: *mut Wall, t: *mut Record, n: usize, m: In, ml: usize) -> WallAnswer;
+    pub fn guc_wall_age(fence: u16, newest: u16) -> i32;
 
     pub fn guc_css_answer(b: Bytes, bl: usize) -> Css;
     pub fn guc_css_part(b: Bytes, bl: usize, which: u32) -> Part;
