@@ -19,8 +19,9 @@ PLAIN = {'lib': '(b) call', 'moves': '(b) call, no SSE', 'rep': '(b) call, no SS
 # At most so many instructions: of the two-word side and of the 260-word side as a multiple of (b) call's, of a dword stored and a dword
 # copied in steps.
 LIMITS = {'libguc': (2.15, 3.7, 80, 57), 'fast': (1.4, 3.0, 80, 57), 'v3': (1.4, 2.0, 80, 57), 'kernel-moves': (1.2, 2.8, 80, 57)}
-# Of a wall's calls of any archive: an opening and a reply as a multiple of plain C's, a reply at 256 records as one of a reply at 16.
-WALL_LIMITS = 2, 20
+# Of a wall's calls of any archive: an opening or a reply as a multiple of plain C's at 16 and at 256 records, and a reply at 256 records
+# as one of a reply at 16. At 16 most of it is the 2,048 bytes that are zeroed for the table's copy, by 8 at a time in a kernel.
+WALL_LIMITS = 3.5, 2, 20
 counts, times = {}, {}
 
 
@@ -55,9 +56,9 @@ def row(what, n, l, label, names):
 
 
 def wall_numbers(numbers, who, plain):
-    # The most of plain C's that an opening and a reply take, and how a reply grows.
-    most = [max(numbers[what, 0, l, who + ':wall'] / numbers[what, 0, l, plain + ':wall'] for l in RECORDS)
-            for what in ('wall_open', 'wall_reply')]
+    # The most of plain C's that an opening or a reply takes at 16 and at 256 records, and how a reply grows.
+    most = [max(numbers[what, 0, l, who + ':wall'] / numbers[what, 0, l, plain + ':wall'] for what in ('wall_open', 'wall_reply'))
+            for l in RECORDS]
     return *most, growth(numbers, who)
 
 
@@ -173,9 +174,9 @@ def check_walls():
         if ('wall_reply', 0, 16, who + ':wall') in counts:
             found = wall_numbers(counts, who, plain)
             said.append('%s %.2f, %.2f and %.1f' % (archive, *found))
-            if max(found[:2]) > WALL_LIMITS[0] or found[2] > WALL_LIMITS[1]:
-                above.append('%s: of a wall at most %d, %d and %d' % (archive, WALL_LIMITS[0], *WALL_LIMITS))
-    print('bench: instructions of a wall\'s opening and reply against plain C, and of a reply at 256 records against 16: %s' % '; '.join(said))
+            if any(number > limit for number, limit in zip(found, WALL_LIMITS)):
+                above.append('%s: of a wall at most %.1f, %d and %d' % (archive, *WALL_LIMITS))
+    print('bench: instructions of a wall\'s calls against plain C at 16 and at 256 records, and of a reply at 256 against 16: %s' % '; '.join(said))
     return above
 
 
