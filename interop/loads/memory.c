@@ -6,13 +6,16 @@
 typedef long long block __attribute__((vector_size(16), aligned(1), may_alias));
 typedef uint32_t dword __attribute__((aligned(1), may_alias));
 
-__attribute__((optimize("no-tree-loop-distribute-patterns"))) void *memcpy(
-    void *restrict dst, const void *restrict src, size_t n)
+/* Keeps a compiler from making a call of these very functions of their loops. */
+#define OPAQUE(p) __asm__("" : "+r"(p))
+
+void *memcpy(void *restrict dst, const void *restrict src, size_t n)
 {
 	char *to = dst;
 	const char *from = src;
 
 	for (; n >= 4 * sizeof(block); n -= 4 * sizeof(block)) {
+		OPAQUE(from);
 		block a = ((const block *)from)[0], b = ((const block *)from)[1];
 		block c = ((const block *)from)[2], d = ((const block *)from)[3];
 		((block *)to)[0] = a;
@@ -22,20 +25,28 @@ __attribute__((optimize("no-tree-loop-distribute-patterns"))) void *memcpy(
 		from += 4 * sizeof(block);
 		to += 4 * sizeof(block);
 	}
-	for (; n >= sizeof(block); n -= sizeof(block), from += sizeof(block), to += sizeof(block))
+	for (; n >= sizeof(block); n -= sizeof(block), from += sizeof(block), to += sizeof(block)) {
+		OPAQUE(from);
 		*(block *)to = *(const block *)from;
-	for (; n >= sizeof(dword); n -= sizeof(dword), from += sizeof(dword), to += sizeof(dword))
+	}
+	for (; n >= sizeof(dword); n -= sizeof(dword), from += sizeof(dword), to += sizeof(dword)) {
+		OPAQUE(from);
 		*(dword *)to = *(const dword *)from;
-	while (n--)
+	}
+	for (; n > 0; n--) {
+		OPAQUE(from);
 		*to++ = *from++;
+	}
 	return dst;
 }
 
-__attribute__((optimize("no-tree-loop-distribute-patterns"))) void *memset(void *dst, int c, size_t n)
+void *memset(void *dst, int c, size_t n)
 {
 	char *to = dst;
 
-	while (n--)
+	for (; n > 0; n--) {
+		OPAQUE(to);
 		*to++ = (char)c;
+	}
 	return dst;
 }
