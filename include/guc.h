@@ -4,6 +4,7 @@
  *
  * ANSWERS ARE POSITIVE. 0 is accepted, and every refusal is a number above 0 of enum guc_number:
  * `if (ret < 0)` never fires, write `if (ret)`. A compiler warns where nobody looks at an answer.
+ * (guc_wall_age has no number to give: it answers an age, which may be below 0.)
  *
  * Every function is total: it answers any contents and any counts, it never aborts, and it keeps
  * nothing between calls; there is no hidden state and no allocation. Where several numbers apply,
@@ -359,9 +360,9 @@ GUC_ANSWER struct guc_unpacked guc_unpack(const uint32_t *msg, size_t len);
  * Nothing is sent or received here: open, send a request with the fence that was given, receive,
  * and hand each received message to guc_wall_reply.
  *
- * An opening or a reply judges the whole table first: another number of records, or two open
- * records with one fence, is 35. It takes each record into a copy of its own once, judges and uses
- * that, and writes at most one record. */
+ * An opening or a reply answers 35, before any other number, for another number of records or for
+ * two open records with one fence. It takes each record into a copy of its own once, judges and
+ * uses that, and writes at most one record. */
 
 /* Makes a table fresh, whatever it holds: every record all zeros, the last fence 65,535.
  * Answers 0, or 35 for another number of records.

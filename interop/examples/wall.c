@@ -16,14 +16,21 @@ static uint32_t to_ring[RING], from_ring[RING];
 static struct guc_wall wall;
 static struct guc_record table[RECORDS]; /* guc_wall_fresh(&wall, table, RECORDS) comes first */
 
-/* A request without payload: opened, and sent with the fence that it got. */
+/* A request without payload: opened, and sent with the fence that it got. Where it cannot be sent,
+ * a retry of our own closes it again. */
 static uint32_t ask(uint16_t action)
 {
 	struct guc_wall_answer a = guc_wall_open(&wall, table, RECORDS, action);
-	struct guc_packed two = guc_pack(GUC_ORIGIN_HOST, a.fence, 1, GUC_TYPE_REQUEST, 0, action);
-	uint32_t msg[2] = { two.header, two.word };
+	struct guc_packed sent = guc_pack(GUC_ORIGIN_HOST, a.fence, 1, GUC_TYPE_REQUEST, 0, action);
+	struct guc_packed back = guc_pack(GUC_ORIGIN_HOST, a.fence, 1, GUC_TYPE_RETRY, 0, 0);
+	uint32_t msg[2] = { sent.header, sent.word }, retry[2] = { back.header, back.word }, code;
 
-	return a.code ? a.code : guc_whole_send(&sender, &to, to_ring, RING, msg, 2);
+	if (a.code)
+		return a.code;
+	code = guc_whole_send(&sender, &to, to_ring, RING, msg, 2);
+	if (code)
+		a = guc_wall_reply(&wall, table, RECORDS, retry, 2);
+	return code;
 }
 
 /* What was received, matched to the request that it answers. */
@@ -65,6 +72,7 @@ int main(void)
 {
 	uint32_t msg[GUC_MESSAGE_DWORDS];
 	struct guc_received got;
+	unsigned open = 0;
 
 	printf("open: %u\n", (unsigned)(guc_whole_open(&sender, &device_receiver, &to, to_ring, RING) |
 	    guc_whole_open(&device_sender, &receiver, &from, from_ring, RING)));
@@ -74,6 +82,11 @@ int main(void)
 	device();
 	while ((got = guc_whole_receive(&receiver, &from, from_ring, RING, msg, GUC_MESSAGE_DWORDS)).code == GUC_OK)
 		matched(msg, got.len);
+	to.status = 1; /* the device gives up: what is opened now is not sent, and not left open */
+	printf("ask 0x504: %u\n", (unsigned)ask(0x504));
+	for (size_t i = 0; i < RECORDS; i++)
+		open += table[i].open;
+	printf("open requests: %u\n", open);
 	printf("age of fence 0: %d\n", (int)guc_wall_age(0, wall.last));
 	return 0;
 }

@@ -6,10 +6,10 @@ ghost use Rattle.requests.specs.Fence.{age};
 ghost use Rattle.requests.specs.Calls.{refusal, given, fresh, opening, reply};
 use requests::Answer;
 use requests::Record;
-use requests::STATE_WORDS;
+use requests::WALL_WORDS;
 
 #[no_mangle]
-pub extern "C" fn guc_wall_fresh(wall: &mut [u16; STATE_WORDS], table: &mut [Record]) -> u32
+pub extern "C" fn guc_wall_fresh(wall: &mut [u16; WALL_WORDS], table: &mut [Record]) -> u32
     ensures { λ r.
         ⌜ given (refusal r) (now (table .exit)) (now (wall .exit))
         ≡ fresh (now (table .entry)) (getD (now (wall .entry)) 0 0) ⌝ }
@@ -19,7 +19,7 @@ pub extern "C" fn guc_wall_fresh(wall: &mut [u16; STATE_WORDS], table: &mut [Rec
 
 #[no_mangle]
 pub extern "C" fn guc_wall_open(
-    wall: &mut [u16; STATE_WORDS],
+    wall: &mut [u16; WALL_WORDS],
     table: &mut [Record],
     action: u16,
 ) -> Answer
@@ -34,7 +34,7 @@ pub extern "C" fn guc_wall_open(
 // The message is unpacked before the table is judged, and what refuses it is said after 35: no dword is read twice.
 #[no_mangle]
 pub extern "C" fn guc_wall_reply(
-    wall: &mut [u16; STATE_WORDS],
+    wall: &mut [u16; WALL_WORDS],
     table: &mut [Record],
     msg: &[u32],
 ) -> Answer

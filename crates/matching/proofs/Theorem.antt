@@ -5,19 +5,20 @@ use mathlib.Core.Path.{_≡_, refl, sym, ap, fun-ext, _∙_}
 use mathlib.Core.Logic.{_↔_}
 use mathlib.Core.Bool.{true}
 use mathlib.Core.List.{List, [], _∷_}
-use mathlib.Core.Option.{some}
+use mathlib.Core.Option.{Option, none, some}
 use native.Mathlib.Omega.{arith}
 use borrow.Author.Tests.{ltb-true, ltb-false, le-leb}
 use lib.ListN.{length, replicate, length-replicate}
 use lib.Seq.{ext-getD}
 use lib.Dec.{ltb}
+use Rattle.message.specs.declared.Message.{Message}
 use Rattle.message.proofs.Tests.{cases}
 use Rattle.ring.specs.Numbers.{need}
 use Rattle.ring.proofs.Chains.{true-false}
 use Rattle.requests.specs.declared.record.Record.{Record}
 use Rattle.requests.specs.declared.planning.Answer.{Answer}
 use Rattle.requests.specs.Table.{freeRecord, isOpen, stillOpen, allowedLength, lowestFree}
-use Rattle.requests.specs.Calls.{refusal, refused, freshNumber, freshBy, fresh}
+use Rattle.requests.specs.Calls.{refusal, refused, freshNumber, freshBy, fresh, reply, asksOpening, asksReply, calling}
 use Rattle.matching.specs.Map.{Plain, freshPlain, howMany, picked}
 use Rattle.matching.specs.Lists.{Call, openCall, replyCall, Wall, wall, left, outcome, run, end, plainRun, plainEnd}
 use Rattle.matching.specs.Lists.{openings, closings}
@@ -184,6 +185,19 @@ module _ (t : List Record) (last : ℕ) (l : 1 ≤ length t) (h : length t ≤ 2
         from-fresh = rw fresh-told (from-fresh w list g (λ i o. fresh-at (length t) i) (fresh-open (length t)));
       }
 
+-- ---- what is asked in code
+
+asked-opening : (w : Wall) (action : ℕ) → calling (w .table) (w .last) (asksOpening action) ≡ outcome w (openCall action)
+unfolding calling
+asked-opening w action = refl
+
+asked-reply :
+    (w : Wall) (received : Option Message)
+    → calling (w .table) (w .last) (asksReply received) ≡ outcome w (replyCall received)
+unfolding calling asksReply reply
+asked-reply w none = refl
+asked-reply w (some m) = refl
+
 -- ---- all of it
 
 pub wallIsMap : WallIsMap
@@ -193,4 +207,6 @@ wallIsMap =
           λ t last g list. (as-map (wall t last) list g, follows (end (wall t last) list) (end-good list (wall t last) g));
       fresh-table = fresh-wall;
       taken = usable-told;
+      asked-opening = asked-opening;
+      asked-reply = asked-reply;
     }

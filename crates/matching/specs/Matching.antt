@@ -13,7 +13,7 @@ use Rattle.message.specs.declared.Message.{Message}
 use Rattle.requests.specs.declared.record.Record.{Record}
 use Rattle.requests.specs.declared.planning.Answer.{Answer}
 use Rattle.requests.specs.Table.{freeRecord, isOpen, hasFence, stillOpen, usable}
-use Rattle.requests.specs.Calls.{Outcome, fresh}
+use Rattle.requests.specs.Calls.{Outcome, fresh, asksOpening, asksReply, calling}
 use Rattle.matching.specs.Map.{Entry, Map, Plain, freshPlain, further, howMany}
 use Rattle.matching.specs.Lists.{Call, openCall, replyCall, Wall, wall, left, outcome, run, end, plainRun, plainEnd}
 use Rattle.matching.specs.Lists.{openings, closings}
@@ -128,3 +128,9 @@ pub record WallIsMap : Type 0 where
   pub taken :
       (t : List Record)
       → (usable t ≡ true) ↔ ((1 ≤ length t) × (length t ≤ 256) × (OneFenceTwice t → ⊥))
+  -- what `wall::call` promises for what is asked is what the lists speak of
+  pub asked-opening :
+      (w : Wall) (action : ℕ) → calling (w .table) (w .last) (asksOpening action) ≡ outcome w (openCall action)
+  pub asked-reply :
+      (w : Wall) (received : Option Message)
+      → calling (w .table) (w .last) (asksReply received) ≡ outcome w (replyCall received)

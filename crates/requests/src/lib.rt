@@ -1,5 +1,5 @@
 // Replies matched to requests (document 02, T-06), on values: what a record says, which fence is next, and what a call
-// does to a table that it is not lent. `wall` carries it out.
+// does to a table that it is not lent: `wall` stores the record. The last fence, one word, is written here.
 mod asking;
 mod fence;
 mod judging;
@@ -16,7 +16,7 @@ pub use fence::age;
 pub use planning::Answer;
 pub use planning::Begun;
 pub use planning::Plan;
-pub use planning::STATE_WORDS;
+pub use planning::WALL_WORDS;
 pub use planning::begin;
 pub use planning::plan_call;
 pub use record::RECORDS_MAX;

@@ -18,7 +18,7 @@ use crate::record::record_of;
 use crate::refusal;
 
 // The state of a wall is one word, the last fence.
-pub const STATE_WORDS: usize = 1;
+pub const WALL_WORDS: usize = 1;
 
 // What a call answers: a number, then an opening's fence, or a reply's kind with the request's action and count. What a
 // call has no part in is 0, and on a refusal all is.
@@ -171,7 +171,7 @@ fn plan_reply(words: &[u64], code: u32, kind: u32, fence: u32) -> Plan
 pub fn plan_call(
     words: &[u64; RECORDS_MAX],
     n: usize,
-    wall: &mut [u16; STATE_WORDS],
+    wall: &mut [u16; WALL_WORDS],
     ask: Ask,
 ) -> Plan
     ensures { λ r.
@@ -203,7 +203,7 @@ pub struct Begun {
     pub records: usize,
 }
 
-pub fn begin(wall: &mut [u16; STATE_WORDS], n: usize) -> Begun
+pub fn begin(wall: &mut [u16; WALL_WORDS], n: usize) -> Begun
     ensures { λ r. ⌜ (r ≡ begun n) × (getD (now (wall .exit)) 0 0 ≡ begunLast n (getD (now (wall .entry)) 0 0)) ⌝ }
 {
     if n < 1 {

@@ -1,6 +1,6 @@
 -- A wall of six players, by value.
-use Prim.Native.Nat.{_-_}
-use mathlib.Core.Bool.{cond}
+use Prim.Native.Nat.{_+_}
+use mathlib.Core.Bool.{true, false}
 use mathlib.Core.List.{[], _∷_}
 use lib.IntN.{ℤ, pos, negsuc}
 use lib.ListN.{replicate}
@@ -13,6 +13,7 @@ use Rattle.stage.specs.declared.walls.Wall.{Wall}
 unfoldable pub freshWall : Wall
 freshWall = record { table = replicate 6 freeRecord; last = firstLast ∷ [] }
 
--- an age as a number: below 0 where the fence is older (`negsuc n` is -(n + 1))
-unfoldable pub agedBy : Aged → ℤ
-agedBy r = cond (r .older) (negsuc (r .by - 1)) (pos (r .by))
+-- an age without its sign, and whether that is below 0 (`negsuc n` is -(n + 1)): 0 is not older
+unfoldable pub asRead : ℤ → Aged
+asRead (pos n) = record { older = false; by = n }
+asRead (negsuc n) = record { older = true; by = n + 1 }

@@ -3,19 +3,19 @@ ghost use mathlib.Core.Path.{_≡_};
 ghost use lib.ListN.{getD};
 ghost use Rattle.requests.specs.Fence.{age};
 ghost use Rattle.requests.specs.Calls.{given, calling};
-ghost use Rattle.stage.specs.Walls.{freshWall, agedBy};
+ghost use Rattle.stage.specs.Walls.{freshWall, asRead};
 use requests::Answer;
 use requests::Ask;
 use requests::FIRST_LAST;
 use requests::Record;
-use requests::STATE_WORDS;
+use requests::WALL_WORDS;
 
 // How many requests the players can have open at once.
 pub const PLAYERS: usize = 6;
 
 pub struct Wall {
     pub table: [Record; PLAYERS],
-    pub last: [u16; STATE_WORDS],
+    pub last: [u16; WALL_WORDS],
 }
 
 // What a call answers, and the wall after it.
@@ -35,12 +35,12 @@ pub fn fresh_wall() -> Wall
             action: 0,
             count: 0,
         }; PLAYERS],
-        last: [FIRST_LAST; STATE_WORDS],
+        last: [FIRST_LAST; WALL_WORDS],
     }
 }
 
 // The answer of a call on a copy of a table and a state, and what each of the two is afterwards.
-fn answer_of(table: [Record; PLAYERS], last: [u16; STATE_WORDS], ask: Ask) -> Answer
+fn answer_of(table: [Record; PLAYERS], last: [u16; WALL_WORDS], ask: Ask) -> Answer
     ensures { λ r. ⌜ r ≡ calling table (getD last 0 0) ask .answer ⌝ }
 {
     let mut t = table;
@@ -48,7 +48,7 @@ fn answer_of(table: [Record; PLAYERS], last: [u16; STATE_WORDS], ask: Ask) -> An
     wall::call(&mut w, &mut t, ask)
 }
 
-fn table_after(table: [Record; PLAYERS], last: [u16; STATE_WORDS], ask: Ask) -> [Record; PLAYERS]
+fn table_after(table: [Record; PLAYERS], last: [u16; WALL_WORDS], ask: Ask) -> [Record; PLAYERS]
     ensures { λ r. ⌜ r ≡ calling table (getD last 0 0) ask .table ⌝ }
 {
     let mut t = table;
@@ -57,7 +57,7 @@ fn table_after(table: [Record; PLAYERS], last: [u16; STATE_WORDS], ask: Ask) -> 
     t
 }
 
-fn last_after(table: [Record; PLAYERS], last: [u16; STATE_WORDS], ask: Ask) -> [u16; STATE_WORDS]
+fn last_after(table: [Record; PLAYERS], last: [u16; WALL_WORDS], ask: Ask) -> [u16; WALL_WORDS]
     ensures { λ r. ⌜ getD r 0 0 ≡ calling table (getD last 0 0) ask .last ⌝ }
 {
     let mut t = table;
@@ -89,7 +89,7 @@ pub struct Aged {
 }
 
 pub fn age_of(fence: u16, newest: u16) -> Aged
-    ensures { λ r. ⌜ agedBy r ≡ age fence newest ⌝ }
+    ensures { λ r. ⌜ r ≡ asRead (age fence newest) ⌝ }
 {
     let d = (fence as u32 + 65536 - newest as u32) % 65536;
     if d < 32768 {

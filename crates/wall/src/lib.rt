@@ -14,7 +14,7 @@ use requests::Ask;
 use requests::Plan;
 use requests::RECORDS_MAX;
 use requests::Record;
-use requests::STATE_WORDS;
+use requests::WALL_WORDS;
 
 // How many records are taken by value: all, or none where there are more than 256, which is refused.
 fn kept(n: usize) -> usize
@@ -24,7 +24,7 @@ fn kept(n: usize) -> usize
 }
 
 // Takes the first m records by value, each once, and plans what is asked.
-fn judge(t: &[Record], m: usize, wall: &mut [u16; STATE_WORDS], ask: Ask) -> Plan
+fn judge(t: &[Record], m: usize, wall: &mut [u16; WALL_WORDS], ask: Ask) -> Plan
     requires { ⌜ m ≡ kept (length (now t)) ⌝ }
     ensures { λ r.
         ⌜ carried r (now (t .entry)) (now (wall .exit))
@@ -50,7 +50,7 @@ fn store(t: &mut [Record], i: usize, r: Record)
 }
 
 // Does what is asked, an opening or a reply: one record of the table is stored, or none.
-pub fn call(wall: &mut [u16; STATE_WORDS], t: &mut [Record], ask: Ask) -> Answer
+pub fn call(wall: &mut [u16; WALL_WORDS], t: &mut [Record], ask: Ask) -> Answer
     ensures { λ r.
         ⌜ given r (now (t .exit)) (now (wall .exit))
         ≡ calling (now (t .entry)) (getD (now (wall .entry)) 0 0) ask ⌝ }
@@ -80,7 +80,7 @@ fn clear(t: &mut [Record], m: usize)
 }
 
 // Makes a table fresh, whatever it held: every record free, the last fence 65,535.
-pub fn fresh(wall: &mut [u16; STATE_WORDS], t: &mut [Record]) -> u32
+pub fn fresh(wall: &mut [u16; WALL_WORDS], t: &mut [Record]) -> u32
     ensures { λ r.
         ⌜ given (refusal r) (now (t .exit)) (now (wall .exit))
         ≡ fresh (now (t .entry)) (getD (now (wall .entry)) 0 0) ⌝ }
