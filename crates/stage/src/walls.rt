@@ -39,47 +39,27 @@ pub fn fresh_wall() -> Wall
     }
 }
 
-// The answer of a call on a copy of a table and a state, and what each of the two is afterwards.
-fn answer_of(table: [Record; PLAYERS], last: [u16; WALL_WORDS], ask: Ask) -> Answer
-    ensures { λ r. ⌜ r ≡ calling table (getD last 0 0) ask .answer ⌝ }
+// The library's own call, on a copy of a table and a state.
+fn call_on(table: [Record; PLAYERS], last: [u16; WALL_WORDS], ask: Ask) -> Called
+    ensures { λ r. ⌜ given (r .answer) (r .wall .table) (r .wall .last) ≡ calling table (getD last 0 0) ask ⌝ }
 {
     let mut t = table;
-    let mut w = last;
-    wall::call(&mut w, &mut t, ask)
+    let mut l = last;
+    let answer = wall::call(&mut l, &mut t, ask);
+    Called {
+        answer,
+        wall: Wall { table: t, last: l },
+    }
 }
 
-fn table_after(table: [Record; PLAYERS], last: [u16; WALL_WORDS], ask: Ask) -> [Record; PLAYERS]
-    ensures { λ r. ⌜ r ≡ calling table (getD last 0 0) ask .table ⌝ }
-{
-    let mut t = table;
-    let mut w = last;
-    wall::call(&mut w, &mut t, ask);
-    t
-}
-
-fn last_after(table: [Record; PLAYERS], last: [u16; WALL_WORDS], ask: Ask) -> [u16; WALL_WORDS]
-    ensures { λ r. ⌜ getD r 0 0 ≡ calling table (getD last 0 0) ask .last ⌝ }
-{
-    let mut t = table;
-    let mut w = last;
-    wall::call(&mut w, &mut t, ask);
-    w
-}
-
-// Does what is asked, by the library's own call.
+// Does what is asked.
 pub fn wall_call(w: Wall, ask: Ask) -> Called
     ensures { λ r.
         ⌜ given (r .answer) (r .wall .table) (r .wall .last) ≡ calling (w .table) (getD (w .last) 0 0) ask ⌝ }
 {
     let table = w.table;
     let last = w.last;
-    Called {
-        answer: answer_of(table, last, ask),
-        wall: Wall {
-            table: table_after(table, last, ask),
-            last: last_after(table, last, ask),
-        },
-    }
+    call_on(table, last, ask)
 }
 
 // The age of a fence as a person reads it: so much older than the newest, or newer.
@@ -91,16 +71,16 @@ pub struct Aged {
 pub fn age_of(fence: u16, newest: u16) -> Aged
     ensures { λ r. ⌜ r ≡ asRead (age fence newest) ⌝ }
 {
-    let d = (fence as u32 + 65536 - newest as u32) % 65536;
-    if d < 32768 {
+    let a = requests::age(fence, newest);
+    if a < 0 {
         Aged {
-            older: false,
-            by: d,
+            older: true,
+            by: (0 - a) as u32,
         }
     } else {
         Aged {
-            older: true,
-            by: 65536 - d,
+            older: false,
+            by: a as u32,
         }
     }
 }

@@ -1,7 +1,7 @@
--- `stage::answer_of` meets its contract: a walk of its MIR, by hand. Table and state are copied into locals, which are lent to
--- `wall::call` for lifetimes that are made for the call, and come back as it left them.
+-- `stage::call_on` meets its contract: a walk of its MIR, by hand. Table and state are copied into locals, which are lent to
+-- `wall::call` for lifetimes that are made for the call, come back as it left them, and are put into the result.
 -- Assumes nothing.
-use mathlib.Core.Path.{_≡_, refl, sym, _∙_, ap, subst}
+use mathlib.Core.Path.{_≡_, refl, sym, _∙_, ap}
 use Prim.Native.Nat.{ℕ}
 use mathlib.Core.List.{List, [], _∷_}
 use lib.Dec.{lit<}
@@ -28,7 +28,7 @@ use types.SemTy.{cells, Arr as Lies, Body}
 use types.Tokens.{lft-new, lft-end}
 use sound.WpLaws.{FmC, fmOf, WpFn-mono}
 use denote.RattleType.{owns}
-use denote.Array.{arrayVal, array-vals, array-tells}
+use denote.Array.{arrayVal, array-makes, array-vals, array-tells}
 use denote.Laws.{Is, shows}
 use denote.Memory.{mem as in-memory, partAt}
 use denote.Plain.{uint-vals, uint-tells, uint-makes, uint-lawful}
@@ -37,7 +37,7 @@ use denote.Ref.{MutRef}
 use denote.Lend.{Held, lends-ref, ref-back, lends-slice, slice-back}
 use denote.Index.{row, whole-in, whole-out}
 use denote.Slice.{sliceVal, MutSlice}
-use denote.Steps.{only, owned, facts, heard, nothing}
+use denote.Steps.{owned, facts, heard, nothing}
 use denote.Struct.Laws as LL
 use denote.Triple.Statement.{Triple}
 use denote.Triple.Call.{calls-at}
@@ -57,18 +57,24 @@ use Rattle.requests.proofs.asking.Ask as K
 use Rattle.requests.proofs.asking.Ask.Laws as K′
 use Rattle.requests.proofs.planning.Answer as N
 use Rattle.requests.proofs.planning.Answer.Laws as N′
+use Rattle.stage.proofs.walls.Wall as Q
+use Rattle.stage.proofs.walls.Wall.Laws as Q′
+use Rattle.stage.proofs.walls.Called as D
+use Rattle.stage.proofs.walls.Called.Laws as D′
 use Rattle.wall.proofs.Cells as array
 use Rattle.wall.proofs.call as call
 use Rattle.wall.proofs.call.Symbol as call-def
 use Rattle.wall.proofs.call.Symbol.{name as #wall·call}
 use Rattle.wall.proofs.call.Met as call-thm
-use Rattle.stage.proofs.walls.answer_of.Key.{name as #stage·answer-of}
-use Rattle.stage.proofs.walls.answer_of as f
-use Rattle.stage.proofs.walls.answer_of.Statement as stated
-use Rattle.stage.proofs.walls.answer_of.Code as code
-use Rattle.stage.proofs.walls.answer_of.Code.Mir.{t-1}
-use Rattle.stage.proofs.Lent.{R, Table, State, tableArr, stateArr, stateRef, tableRef, slice, Calling, asked-wt, table-wt, state-wt, long}
-use Rattle.stage.proofs.Lent.{room, lentTable, lentState, s, call-arg, Called, to-call, goes-call}
+use Rattle.stage.proofs.walls.call_on.Key.{name as #stage·call-on}
+use Rattle.stage.proofs.walls.call_on as f
+use Rattle.stage.proofs.walls.call_on.Statement as stated
+use Rattle.stage.proofs.walls.call_on.Code as code
+use Rattle.stage.proofs.walls.call_on.Code.Mir.{t-1}
+use Rattle.stage.proofs.Lent.{R, Table, State, tableArr, stateArr, stateRef, tableRef, slice, Calling}
+use Rattle.stage.proofs.Lent.{asked-wt, table-wt, state-wt, long}
+use Rattle.stage.proofs.Lent.{room, lentTable, lentState, s, call-arg, After, to-call, goes-call}
+use Rattle.stage.proofs.Lent.{wall, called, calledVal, is-wall, is-called}
 
 abbrev stayed : Stays (f.ended .signature .params) (f.ended .kept)
 stayed = (stay-none (λ _. Table) yes, (stay-none (λ _. State) yes, (stay-none (λ _. K.the-row) yes, tt)))
@@ -91,23 +97,25 @@ module _ {M : Type 1} (𝓤 : URA M) (H : Heap 𝓤) (A : Atoms 𝓤) (W : Given
   abbrev Post : Val → SProp 𝓤
   Post = walkOf 𝓤 H A f.ended stayed (f.clauses 𝓤 H A mem run) .post ((tt, tt, tt, arg, at), tt)
 
-  exits : (r : Answer) → Is N.the-row r (N′.lowered r ∷ []) → r ≡ calling ys (getD ws 0 0) ask .answer
-      → ent 𝓤 (sem 𝓤 H A (owns (Table ∷ State ∷ K.the-row ∷ []) arg at)) (Post (N′.lowered r))
-  exits r ir e =
+  exits : (r : Answer) (v : Val) (zs : List Record) (tu : Val) (us : List ℕ) (su : Val) → Is N.the-row r (v ∷ [])
+      → Is Table zs (tu ∷ []) → Is State us (su ∷ []) → After ys ws ask r us zs
+      → ent 𝓤 (sem 𝓤 H A (owns (Table ∷ State ∷ K.the-row ∷ []) arg at)) (Post (calledVal v tu su))
+  exits r v zs tu us su ir it is e =
       qed W (‵ (owns (Table ∷ State ∷ K.the-row ∷ []) arg at) ∷ [])
-      ∵ suffices ! _ (ends-at 𝓤 H A f.ended stayed (f.clauses 𝓤 H A mem run) W ((tt, tt, tt, arg, at), tt) (N′.lowered r) r
-      (tt, (tt, (tt, tt))) (tt, (tt, (tt, tt))))
-      $ says ! e $ owned ! N.the-row (Is N.the-row) (LL.makes N.the-type N′.the-plain 𝓤 H A) r _ ir
-      $ move ! (1 ∷ 0 ∷ []) $ nothing ! $ done !
+      ∵ suffices ! _ (ends-at 𝓤 H A f.ended stayed (f.clauses 𝓤 H A mem run) W ((tt, tt, tt, arg, at), tt) (calledVal v tu su)
+      (called r zs us) (tt, (tt, (tt, tt))) (tt, (tt, (tt, tt))))
+      $ says ! e $ owned ! D.the-row (Is D.the-row) (LL.makes D.the-type D′.the-plain 𝓤 H A) (called r zs us) _
+      (is-called r v zs tu us su ir it is) $ move ! (1 ∷ 0 ∷ []) $ nothing ! $ done !
 
   module _ (C : Calls 𝓤 H) (Λ : Loops 𝓤 H) (fm : FmC 𝓤 H (W .laws) C)
       (known : Triple 𝓤 (C #wall·call) (Calling 𝓤 H A mem run)) where
     -- the locals, with their types spelled out
     abbrev Locals : List Local
     Locals =
-        local N′.mir valueLocal ∷ local tableArr valueLocal ∷ local stateArr valueLocal
+        local D′.mir valueLocal ∷ local tableArr valueLocal ∷ local stateArr valueLocal
         ∷ local K′.mir valueLocal ∷ local tableArr memorySlot ∷ local stateArr memorySlot
-        ∷ local stateRef valueLocal ∷ local tableRef valueLocal ∷ local slice valueLocal ∷ []
+        ∷ local N′.mir valueLocal ∷ local stateRef valueLocal ∷ local tableRef valueLocal
+        ∷ local slice valueLocal ∷ local tableArr valueLocal ∷ local stateArr valueLocal ∷ local Q′.mir valueLocal ∷ []
 
     abbrev Entry : List (Item 𝓤)
     Entry = ‵ ftrue ∷ ‵ (owns (Table ∷ State ∷ K.the-row ∷ []) arg at) ∷ []
@@ -115,19 +123,19 @@ module _ {M : Type 1} (𝓤 : URA M) (H : Heap 𝓤) (A : Atoms 𝓤) (W : Given
     inside : Seq (Go {0}) W Entry (allocs Locals (λ E. params′ E (tv ∷ sv ∷ asked ∷ []) (runs C Λ E t-1 (atRet E Post))))
     inside =
         alloc1 ! (λ l₀. alloc1 ! (λ l₁. alloc1 ! (λ l₂. alloc1 ! (λ l₃. alloc1 ! (λ l₄. alloc1 ! (λ l₅. alloc1 ! (λ l₆.
-        alloc1 ! (λ l₇. alloc1 ! (λ l₈.
-        alloc0 ! $ params1 ! $ pass1 ! (init ! 14 refl (table-wt 𝓤 H A W ys tv iy)) $ pass1 ! (init ! 12 refl (state-wt 𝓤 H A W ws sv iw))
-        $ pass1 ! (init ! 10 refl (asked-wt 𝓤 H A W ask ga)) $ pass0 !
-        $ assigns ! (of-opd ! (load ! (from ! (stop !)) (look ! 14 refl))) (from ! (stop !)) (init ! 8 refl (table-wt 𝓤 H A W ys tv iy))
-        $ assigns ! (of-opd ! (load ! (from ! (stop !)) (look ! 12 refl))) (from ! (stop !)) (init ! 6 refl (state-wt 𝓤 H A W ws sv iw))
-        $ assigns ! (addr ! (from ! (stop !))) (from ! (stop !)) (init ! 4 refl (tt, tt))
-        $ assigns ! (addr ! (from ! (stop !))) (from ! (stop !)) (init ! 2 refl (tt, tt))
-        $ assigns ! (agg ! (and-then ! (load ! (from ! (stop !)) (look ! 2 refl)) (and-then ! (lit ! tt)
+        alloc1 ! (λ l₇. alloc1 ! (λ l₈. alloc1 ! (λ l₉. alloc1 ! (λ l₁₀. alloc1 ! (λ l₁₁. alloc1 ! (λ l₁₂.
+        alloc0 ! $ params1 ! $ pass1 ! (init ! 22 refl (table-wt 𝓤 H A W ys tv iy)) $ pass1 ! (init ! 20 refl (state-wt 𝓤 H A W ws sv iw))
+        $ pass1 ! (init ! 18 refl (asked-wt 𝓤 H A W ask ga)) $ pass0 !
+        $ assigns ! (of-opd ! (load ! (from ! (stop !)) (look ! 22 refl))) (from ! (stop !)) (init ! 16 refl (table-wt 𝓤 H A W ys tv iy))
+        $ assigns ! (of-opd ! (load ! (from ! (stop !)) (look ! 20 refl))) (from ! (stop !)) (init ! 14 refl (state-wt 𝓤 H A W ws sv iw))
+        $ assigns ! (addr ! (from ! (stop !))) (from ! (stop !)) (init ! 10 refl (tt, tt))
+        $ assigns ! (addr ! (from ! (stop !))) (from ! (stop !)) (init ! 8 refl (tt, tt))
+        $ assigns ! (agg ! (and-then ! (load ! (from ! (stop !)) (look ! 8 refl)) (and-then ! (lit ! tt)
         (no-more !)))) (from ! (stop !))
-        (init ! 0 refl (tt, (tt, (record { fits = lit< tt }, tt))))
-        $ rewrite ! 0 (λ (k : ℕ). ‵ (fat fullShare slice l₈ 0 (sliceVal (l₄, 0) k))) (sym (long ys tv iy)) refl
+        (init ! 6 refl (tt, (tt, (record { fits = lit< tt }, tt))))
+        $ rewrite ! 6 (λ (k : ℕ). ‵ (fat fullShare slice l₉ 0 (sliceVal (l₄, 0) k))) (sym (long ys tv iy)) refl
         -- the table is lent, for a lifetime ν of the call, and the state for ν′
-        $ move ! (8 ∷ []) $ use1 W (‵ (partAt Table fullShare ys l₄ 0))
+        $ move ! (16 ∷ []) $ use1 W (‵ (partAt Table fullShare ys l₄ 0))
         (array.cell-part R 6 𝓤 H A W (LL.lawful T.the-type T′.the-laws 𝓤 H A W)
         (LL.makes T.the-type T′.the-plain 𝓤 H A) ys tv l₄ iy)
         $ use1 W (‵ (row R fullShare ys l₄ 0))
@@ -135,17 +143,18 @@ module _ {M : Type 1} (𝓤 : URA M) (H : Heap 𝓤) (A : Atoms 𝓤) (W : Given
         $ use1 W (‵ (cells (in-memory R) ys l₄ 0)) (whole-in 𝓤 H A W R ys l₄ 0) $ lft-new ! tt (λ ν. move ! (1 ∷ [])
         $ use1 W (later (some (λ (δ : GName). ‵ (MutSlice (named 1) (ν ∷ []) R .own (lentTable ys ws ask l₄ δ) (s ys ws ask l₄ ∷ []))
         ⊛ ‵ (flent (ν ∷ []) (Held R (length ys) l₄ 0 δ))))) (lends-slice 𝓤 H A W R (named 1) (ν ∷ []) ys l₄ 0 (room ys tv iy))
-        $ await ! tt $ pick ! (λ δ. split ! $ move ! (9 ∷ []) $ use1 W (‵ (partAt State fullShare ws l₅ 0))
+        $ await ! tt $ pick ! (λ δ. split ! $ move ! (17 ∷ []) $ use1 W (‵ (partAt State fullShare ws l₅ 0))
         (array.cell-part u16 1 𝓤 H A W (uint-lawful 𝓤 H A W w16) (uint-makes 𝓤 H A W w16) ws sv l₅ iw)
         $ lft-new ! tt (λ ν′. move ! (1 ∷ [])
         $ use1 W (later (some (λ (δ′ : GName). ‵ (MutRef (named 0) (ν′ ∷ []) State .own (lentState ys ws ask l₅ δ′) (vptr l₅ 0 ∷ []))
         ⊛ ‵ (flent (ν′ ∷ []) (Body (in-memory State) l₅ 0 δ′))))) (lends-ref 𝓤 H A W State (named 0) (ν′ ∷ []) ws l₅ 0)
         $ await ! tt $ pick ! (λ δ′. split ! $ nothing ! $ move ! (6 ∷ 0 ∷ []) $ join ! $ move ! (3 ∷ 0 ∷ []) $ join !
         $ move ! (0 ∷ 1 ∷ 3 ∷ [])
-        $ use3 W (raw (Calling 𝓤 H A mem run .pre (to-call 𝓤 H A W mem run ys ws ask ga ν l₄ δ ν′ l₅ δ′))) (goes-call 𝓤 H A W mem run ys ws ask ga ν l₄ δ ν′ l₅ δ′)
+        $ use3 W (raw (Calling 𝓤 H A mem run .pre (to-call 𝓤 H A W mem run ys ws ask ga ν l₄ δ ν′ l₅ δ′)))
+        (goes-call 𝓤 H A W mem run ys ws ask ga ν l₄ δ ν′ l₅ δ′)
         $ calls-at ! fm (Calling 𝓤 H A mem run) known (to-call 𝓤 H A W mem run ys ws ask ga ν l₄ δ ν′ l₅ δ′)
-        (and-then ! (load ! (from ! (stop !)) (look ! 7 refl)) (and-then ! (load ! (from ! (stop !)) (look ! 3 refl))
-        (and-then ! (load ! (from ! (stop !)) (look ! 11 refl)) (no-more !)))) (λ v.
+        (and-then ! (load ! (from ! (stop !)) (look ! 13 refl)) (and-then ! (load ! (from ! (stop !)) (look ! 9 refl))
+        (and-then ! (load ! (from ! (stop !)) (look ! 19 refl)) (no-more !)))) (λ v.
         use1 W (later (some (λ (r : Answer). ((‵ (flft (ν′ ∷ []) fullShare) ⊛ ‵ (flft (ν ∷ []) fullShare) ⊛ ‵ ftrue)
         ⊛ ‵ (N.the-row .own r (v ∷ [])))
         ⊛ raw (ensured 𝓤 H A call.ended (call.clauses 𝓤 H A mem run) (
@@ -165,13 +174,12 @@ module _ {M : Type 1} (𝓤 : URA M) (H : Heap 𝓤) (A : Atoms 𝓤) (W : Given
                 ∷ [],
             tt,
           ),
-        ) (call-arg ys ws ask l₄ δ l₅ δ′) us) ⊛ raw (fact 𝓤 (Called ys ws ask r (us .0) (us .1 .0))))) (id⊢ 𝓤 _)
-        $ pick ! (λ us. split ! $ move ! (1 ∷ []) $ heard ! (Called ys ws ask r (us .0) (us .1 .0)) (λ er.
+        ) (call-arg ys ws ask l₄ δ l₅ δ′) us) ⊛ raw (fact 𝓤 (After ys ws ask r (us .0) (us .1 .0))))) (id⊢ 𝓤 _)
+        $ pick ! (λ us. split ! $ move ! (1 ∷ []) $ heard ! (After ys ws ask r (us .0) (us .1 .0)) (λ er.
         fsplit ! $ move ! (1 ∷ []) $ fsplit ! $ fsplit ! $ move ! (1 ∷ []) $ feqL ! (λ l. move ! (3 ∷ []) $ split !
         $ move ! (1 ∷ [])
         $ facts ! N.the-row (Is N.the-row) (shows 𝓤 H A N.the-row) r (v ∷ []) (λ ir.
-        land ! (from ! (stop !)) (init ! 20 refl (LL.lawful N.the-type N′.the-laws 𝓤 H A W .typed r _ ir .0))
-        $ rewrite ! 20 (λ (u : Val). ‵ (fat fullShare N′.mir l₀ 0 u)) (ap only (N′.lowers .val-is r (v ∷ []) ir)) refl
+        land ! (from ! (stop !)) (init ! 18 refl (LL.lawful N.the-type N′.the-laws 𝓤 H A W .typed r _ ir .0))
         -- the lifetimes are ended, and the locals come back
         $ split ! $ lft-end ! tt $ move ! (0 ∷ 5 ∷ 4 ∷ [])
         $ use3 W (later (‵ (in-memory State .lies (us .0) l₅ 0))) (ref-back 𝓤 H A W State (ν′ ∷ []) δ′ (us .0) l₅ 0) $ await ! tt
@@ -192,15 +200,26 @@ module _ {M : Type 1} (𝓤 : URA M) (H : Heap 𝓤) (A : Atoms 𝓤) (W : Given
         (array.part-cell R 6 𝓤 H A W (LL.lawful T.the-type T′.the-laws 𝓤 H A W)
         (LL.makes T.the-type T′.the-plain 𝓤 H A) (us .1 .0) l₄)
         $ pick ! (λ vs₄. learn ! (λ g₄.
-        returns ! (look ! 18 refl) $ forget ! 0 refl $ forget ! 2 refl $ forget ! 4 refl $ forget ! 6 refl
-        $ forget ! 8 refl $ forget ! 12 refl $ forget ! 14 refl $ forget ! 16 refl $ forget ! 18 refl
-        $ move ! (18 ∷ 19 ∷ []) $ free1 ! $ move ! (16 ∷ 17 ∷ []) $ free1 ! $ move ! (14 ∷ 15 ∷ []) $ free1 !
-        $ move ! (12 ∷ 13 ∷ []) $ free1 ! $ move ! (0 ∷ 11 ∷ []) $ free1 ! $ move ! (1 ∷ 9 ∷ []) $ free1 !
+        -- the result is made of the answer and of the two, copied
+        assigns ! (of-opd ! (load ! (from ! (stop !)) (look ! 0 refl))) (from ! (stop !)) (init ! 8 refl (table-wt 𝓤 H A W
+        (us .1 .0) (arrayVal vs₄) g₄))
+        $ assigns ! (of-opd ! (load ! (from ! (stop !)) (look ! 2 refl))) (from ! (stop !)) (init ! 6 refl (state-wt 𝓤 H A W
+        (us .0) (arrayVal vs₅) g₅))
+        $ assigns ! (agg ! (and-then ! (load ! (from ! (stop !)) (look ! 8 refl)) (and-then ! (load ! (from ! (stop !))
+        (look ! 6 refl)) (no-more !)))) (from ! (stop !)) (init ! 4 refl (LL.lawful Q.the-type Q′.the-laws 𝓤 H A W .typed
+        (wall (us .1 .0) (us .0)) _ (is-wall (us .1 .0) (arrayVal vs₄) (us .0) (arrayVal vs₅) g₄ g₅) .0))
+        $ assigns ! (agg ! (and-then ! (load ! (from ! (stop !)) (look ! 16 refl)) (and-then ! (load ! (from ! (stop !))
+        (look ! 4 refl)) (no-more !)))) (from ! (stop !)) (init ! 26 refl (LL.lawful D.the-type D′.the-laws 𝓤 H A W .typed
+        (called r (us .1 .0) (us .0)) _ (is-called r v (us .1 .0) (arrayVal vs₄) (us .0) (arrayVal vs₅) ir g₄ g₅) .0))
+        $ returns ! (look ! 26 refl) $ forget ! 0 refl $ forget ! 2 refl $ forget ! 4 refl $ forget ! 6 refl
+        $ forget ! 8 refl $ forget ! 10 refl $ forget ! 12 refl $ forget ! 14 refl $ forget ! 16 refl $ forget ! 20 refl
+        $ forget ! 22 refl $ forget ! 24 refl $ forget ! 26 refl $ move ! (26 ∷ 27 ∷ []) $ free1 !
+        $ move ! (24 ∷ 25 ∷ []) $ free1 ! $ move ! (22 ∷ 23 ∷ []) $ free1 ! $ move ! (20 ∷ 21 ∷ []) $ free1 !
+        $ move ! (0 ∷ 19 ∷ []) $ free1 ! $ move ! (1 ∷ 17 ∷ []) $ free1 ! $ move ! (14 ∷ 15 ∷ []) $ free1 !
+        $ move ! (12 ∷ 13 ∷ []) $ free1 ! $ move ! (10 ∷ 11 ∷ []) $ free1 ! $ move ! (8 ∷ 9 ∷ []) $ free1 !
         $ move ! (6 ∷ 7 ∷ []) $ free1 ! $ move ! (4 ∷ 5 ∷ []) $ free1 ! $ move ! (2 ∷ 3 ∷ []) $ free1 ! $ free0 !
-        $ keep ! (3 ∷ []) $ by ! (exits r (answered r v ir) (ap (λ (x : Outcome). x .answer) er)))))))))))))))))))))))))
-      where
-        answered : (r : Answer) (v : Val) → Is N.the-row r (v ∷ []) → Is N.the-row r (N′.lowered r ∷ [])
-        answered r v ir = subst (Is N.the-row r) (N′.lowers .val-is r (v ∷ []) ir) ir
+        $ keep ! (3 ∷ [])
+        $ by ! (exits r v (us .1 .0) (arrayVal vs₄) (us .0) (arrayVal vs₅) ir g₄ g₅ er))))))))))))))))))))))))))))
 
     walk : ent 𝓤 (onEntry 𝓤 H A f.signature tt tt arg at) (WpFn 𝓤 H C Λ code.function (tv ∷ sv ∷ asked ∷ []) Post)
     walk = qed W Entry ∵ enter ! C Λ code.function (tv ∷ sv ∷ asked ∷ []) _ $ inside
@@ -230,11 +249,11 @@ meets 𝓤 H A W mem run 𝓣 k =
     (f.clauses 𝓤 H A mem run) (WpFn 𝓤 H (𝓣 .C) (𝓣 .Λ) code.function) (WpFn-mono 𝓤 H (W .laws) 𝓣 code.function)
     (walks 𝓤 H A W mem run (𝓣 .C) (𝓣 .Λ) (fmOf 𝓤 H (W .laws) 𝓣) k)
 
-pub answer-of-spec : {M : Type 1} → stated.statement M
+pub call-on-spec : {M : Type 1} → stated.statement M
 unfolding code.routine tablesOf
-answer-of-spec 𝓤 H 𝓜 𝓖 𝓡 =
+call-on-spec 𝓤 H 𝓜 𝓖 𝓡 =
     entered 𝓤 H (tripleOf 𝓤 H (𝓖 .A) f.signature (f.spec 𝓤 H (𝓖 .A) (𝓜 .mem) (𝓡 .run)))
-    (tables 𝓤 H 𝓜 𝓡 code.env .C) (tables 𝓤 H 𝓜 𝓡 code.env .Λ) #stage·answer-of code.function (code.unfolded 𝓤 H 𝓜 𝓡)
+    (tables 𝓤 H 𝓜 𝓡 code.env .C) (tables 𝓤 H 𝓜 𝓡 code.env .Λ) #stage·call-on code.function (code.unfolded 𝓤 H 𝓜 𝓡)
     (meets 𝓤 H (𝓖 .A) (givenOf 𝓤 H 𝓜 𝓖) (𝓜 .mem) (𝓡 .run) (tablesOf 𝓤 H 𝓜 (tables 𝓤 H 𝓜 𝓡 code.env))
     (cited 𝓤 H (Calling 𝓤 H (𝓖 .A) (𝓜 .mem) (𝓡 .run)) 𝓜 𝓡 code.env #wall·call call-def.routine code.calls-wall·call
     (call-thm.met 𝓤 H 𝓜 𝓖 𝓡)))
