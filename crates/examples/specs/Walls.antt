@@ -45,6 +45,7 @@ walls =
     ∷ (age 0 32768 is negsuc 32767)
     -- Ours: both ends and their neighbours, the newest itself, and one older
     ∷ (age 32767 0 is pos 32767)
+    ∷ (age 32766 0 is pos 32766)
     ∷ (age 32769 0 is negsuc 32766)
     ∷ (age 65535 0 is negsuc 0)
     ∷ (age 65535 65535 is pos 0)
@@ -53,8 +54,14 @@ walls =
     -- 'A fresh or closed record is free and all zeros; the last fence starts at 65,535.'
     ∷ (fresh (flagged ∷ flagged ∷ dirty ∷ []) 9 is
     record { answer = refusal 0; table = replicate 3 freeRecord; last = 65535 })
+    -- Ours: 1 and 256 records are made fresh, none and 257 are refused, whatever they hold
+    ∷ (map (λ n. fresh (replicate n flagged) 9) (1 ∷ 256 ∷ [])
+    is map (λ n. record { answer = refusal 0; table = replicate n freeRecord; last = 65535 }) (1 ∷ 256 ∷ []))
+    ∷ (map (λ n. fresh (replicate n flagged) 9) (0 ∷ 257 ∷ [])
+    is map (λ n. refused 35 (replicate n flagged) 9) (0 ∷ 257 ∷ []))
     -- 'picks the next fence, counting up from the last one used and wrapping at 65,536, .. and uses the lowest free record'
     ∷ (opening (freeRecord ∷ freeRecord ∷ []) 65535 9 is gives 0 (open-as 0 9 0 ∷ freeRecord ∷ []))
+    ∷ (opening (replicate 256 freeRecord) 65535 9 is gives 0 (open-as 0 9 0 ∷ replicate 255 freeRecord))
     ∷ (opening (open-as 3 1 0 ∷ dirty ∷ freeRecord ∷ []) 65534 9 is
     gives 65535 (open-as 3 1 0 ∷ open-as 65535 9 0 ∷ freeRecord ∷ []))
     -- 'skipping fences still open': two of them around the wrap; a free record's fence is not open
@@ -78,6 +85,8 @@ walls =
     -- 'Another table length, or two open records with one fence, is 35, before all else.'
     ∷ (map (λ t. opening t 7 9) ([] ∷ replicate 257 freeRecord ∷ (flagged ∷ dirty ∷ open-as 5 1 0 ∷ []) ∷ [])
     is map (λ t. refused 35 t 7) ([] ∷ replicate 257 freeRecord ∷ (flagged ∷ dirty ∷ open-as 5 1 0 ∷ []) ∷ []))
+    ∷ (map (λ t. reply t 7 (some (from 5 (Success 0)))) ([] ∷ replicate 257 freeRecord ∷ [])
+    is map (λ t. refused 35 t 7) ([] ∷ replicate 257 freeRecord ∷ []))
     ∷ (map (λ x. reply (open-as 5 9 2 ∷ flagged ∷ []) 7 x) (none ∷ some (from 6 (Success 0)) ∷ [])
     is replicate 2 (refused 35 (open-as 5 9 2 ∷ flagged ∷ []) 7))
     -- Ours: low eight bits that agree are no duplicate; a malformed message is 4, after 35 and before 27

@@ -2,6 +2,7 @@ pub mod Maps
 pub mod Tables
 pub mod Sets
 pub mod Once
+pub mod Unusable
 pub mod Fences
 pub mod Openings
 pub mod Replies

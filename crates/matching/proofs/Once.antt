@@ -15,7 +15,7 @@ use Rattle.ring.proofs.Chains.{true-false}
 use Rattle.requests.specs.declared.record.Record.{Record}
 use Rattle.requests.specs.Table.{isOpen, hasFence, stillOpen, fenceTwice, allowedLength, usable, placeOf}
 use Rattle.matching.specs.Map.{isOpenIn, put, openBelow}
-use Rattle.matching.specs.Matching.{at, entryIn, openRecords, OneFenceTwice}
+use Rattle.matching.specs.Matching.{at, entryIn, openRecords, OneFenceTwice, Taken}
 use Rattle.matching.proofs.Maps.{eqb-sym, below-put, below-empty}
 use Rattle.matching.proofs.Tables.{entryOf, or-l, or-r, has-open, has-fence, has-closed, free-closed}
 use Rattle.matching.proofs.Tables.{still-there, still-at, open-inside, place-inside, place-has}
@@ -107,20 +107,25 @@ alone t f i n h k d =
     }))))
     (λ e. e)
 
-pub usable-told :
-    (t : List Record) → (usable t ≡ true) ↔ ((1 ≤ length t) × (length t ≤ 256) × (OneFenceTwice t → ⊥))
+pub usable-told : (t : List Record) → (usable t ≡ true) ↔ Taken t
 unfolding usable allowedLength
 usable-told t =
     let low = leb 1 (length t) in
     let high = leb (length t) 256 in (
       λ e.
           let a = and-l (low && high) (not (fenceTwice t)) e in
-          let n = not-true (fenceTwice t) (and-r (low && high) (not (fenceTwice t)) e) in (
-            leb-true 1 (length t) (and-l low high a),
-            leb-true (length t) 256 (and-r low high a),
-            λ w. true-false (sym (twice-told t w) ∙ n),
+          let n = not-true (fenceTwice t) (and-r (low && high) (not (fenceTwice t)) e) in
+          record {
+            some-records = leb-true 1 (length t) (and-l low high a);
+            not-too-many = leb-true (length t) 256 (and-r low high a);
+            no-fence-twice = λ w. true-false (sym (twice-told t w) ∙ n);
+          },
+      λ h.
+          rw (
+            le-leb 1 (length t) (h .some-records),
+            le-leb (length t) 256 (h .not-too-many),
+            once-told t (h .no-fence-twice),
           ),
-      λ h. rw (le-leb 1 (length t) (h .0), le-leb (length t) 256 (h .1), once-told t (h .2)),
     )
 
 -- ---- as many records are open as fences

@@ -36,9 +36,12 @@ pub stored-good :
     (t : List Record) (i : ℕ) (r : Record) (f : ℕ) → Good t → Stores t i r f → r .fence < 65536 → Good (set t i r)
 stored-good t i r f g s h =
     record {
-      some-records = rw length-set (g .some-records);
-      not-too-many = rw length-set (g .not-too-many);
-      no-fence-twice = stored-once t i r f s (g .no-fence-twice);
+      taken =
+          record {
+            some-records = rw length-set (g .taken .some-records);
+            not-too-many = rw length-set (g .taken .not-too-many);
+            no-fence-twice = stored-once t i r f s (g .taken .no-fence-twice);
+          };
       sixteen-bits = each-set (λ (x : Record). x .fence < 65536) t i r (g .sixteen-bits) h;
     }
 
@@ -78,14 +81,14 @@ open-entry f a = rw (has-own (openRecord f a) (open-is-open f a))
 
 module _ (t : List Record) (g : Good t) where
   pub is-usable : usable t ≡ true
-  is-usable = usable-told t .1 (g .some-records, g .not-too-many, g .no-fence-twice)
+  is-usable = usable-told t .1 (g .taken)
 
   pub as-many-open : openRecords t ≡ howMany (entryIn t)
   unfolding howMany
-  as-many-open = as-many-below 65536 t (once-told t (g .no-fence-twice)) (g .sixteen-bits)
+  as-many-open = as-many-below 65536 t (once-told t (g .taken .no-fence-twice)) (g .sixteen-bits)
 
   few-open : howMany (entryIn t) < 65536
-  few-open = omega (arith, as-many-open, open-most t, g .not-too-many)
+  few-open = omega (arith, as-many-open, open-most t, g .taken .not-too-many)
 
   -- the map is full exactly when no record is free
   has-room : ltb (howMany (entryIn t)) (length t) ≡ ltb (lowestFree t) (length t)

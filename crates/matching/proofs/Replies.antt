@@ -62,7 +62,7 @@ module _ (t : List Record) (g : Good t) (last f : ℕ) where
         inside = place-inside t f s;
         was = o;
         now = λ k n. after-other kind k answered (o k n);
-        elsewhere = alone t f (placeOf f t) (g .no-fence-twice) h;
+        elsewhere = alone t f (placeOf f t) (g .taken .no-fence-twice) h;
       }
 
   -- ---- what is answered

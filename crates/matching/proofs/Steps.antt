@@ -6,7 +6,7 @@ use mathlib.Core.Bool.{true, false, _&&_}
 use mathlib.Core.List.{List}
 use mathlib.Core.Option.{none, some}
 use native.Mathlib.Omega.{arith}
-use borrow.Author.Tests.{ltb-true}
+use borrow.Author.Tests.{ltb-true, eq-eqb, ne-eqb}
 use lib.ListN.{length, length-set}
 use lib.Dec.{eqb, ltb}
 use Rattle.message.specs.Types.{typeOf}
@@ -15,11 +15,11 @@ use Rattle.message.proofs.Tests.{and-l, cases}
 use Rattle.ring.proofs.Chains.{true-false}
 use Rattle.requests.specs.declared.record.Record.{Record}
 use Rattle.requests.specs.Table.{freeRecord, isOpen, stillOpen, lowestFree, placeOf}
-use Rattle.requests.specs.Calls.{Outcome, refused, openRecord, isReply, replyAt, reply, recordAfter, answerOf}
+use Rattle.requests.specs.Calls.{Outcome, refused, openRecord, isReply, replyAt, reply, recordAfter, countAfter, answerOf}
 use Rattle.matching.specs.Lists.{Call, openCall, replyCall, Wall, wall, left, outcome, plainOutcome, opensOne, closesOne}
-use Rattle.matching.specs.Matching.{at, Good, entryIn, openRecords, plainOf}
+use Rattle.matching.specs.Matching.{at, Good, entryIn, openRecords, plainOf, Opened, Answered}
 use Rattle.matching.proofs.Maps.{put-other}
-use Rattle.matching.proofs.Tables.{has-open, lowest-free, place-inside, place-has}
+use Rattle.matching.proofs.Tables.{has-open, lowest-free, lower-open, place-inside, place-has}
 use Rattle.matching.proofs.Sets.{each-set, open-set, stored-entry}
 use Rattle.matching.proofs.Openings.{asPlain, stored-good, fresh-fence, opened, fence-below, open-is-open}
 use Rattle.matching.proofs.Openings.{open-stores, open-full, open-room, open-same}
@@ -134,3 +134,32 @@ module _ (t : List Record) (g : Good t) (last : ℕ) where
   did-other m x (answers _ s) f d =
       stored-entry t _ _ (m .fence) (reply-stores t g last (m .fence) (typeOf (m .body)) s) f
       ∙ put-other (entryIn t) (m .fence) _ f d
+
+  -- an opening stores its request at the lowest free place
+  pub did-open :
+      (a : ℕ) (x : Outcome) → Did t last (openCall a) x → x .answer .code ≡ 0 → Opened t (x .table) (x .answer .fence) a
+  unfolding refused
+  did-open a x (refuses _ n e) z = true-false (sym (eq-eqb n 0 z) ∙ e)
+  did-open a x (opens _ e) z =
+      record {
+        i = lowestFree t;
+        inside = ltb-true (lowestFree t) (length t) e;
+        free = lowest-free t;
+        lower-open = lower-open t;
+        stored = refl;
+      }
+
+  -- a reply stores at the place of the record with its fence
+  pub did-answer :
+      (m : Message) (x : Outcome) → Did t last (replyCall (some m)) x → x .answer .code ≡ 0
+      → Answered t (x .table) (m .fence) (x .answer)
+  unfolding refused replyAt answerOf recordAfter countAfter
+  did-answer m x (refuses _ n e) z = true-false (sym (eq-eqb n 0 z) ∙ e)
+  did-answer m x (answers _ s) z =
+      record {
+        i = placeOf (m .fence) t;
+        inside = place-inside t (m .fence) s;
+        its-own = place-has t (m .fence) s;
+        closed = λ n. rw (ne-eqb (typeOf (m .body)) 3 n);
+        busy = λ e. rw (eq-eqb (typeOf (m .body)) 3 e);
+      }

@@ -121,6 +121,16 @@ unfolding lowestFree
 lowest-free [] = free-closed
 lowest-free (r ∷ t) = cases (isOpen r) (λ e. rw e (lowest-free t)) (λ e. rw e e)
 
+pub lower-open : (t : List Record) (j : ℕ) → j < lowestFree t → isOpen (at t j) ≡ true
+unfolding lowestFree
+lower-open [] j l = absurd (omega arith)
+lower-open (r ∷ t) zero l =
+    cases (isOpen r) (λ e. e) (λ e. let q : 0 < 0 = rw e at l in absurd (omega arith))
+lower-open (r ∷ t) (suc j) l =
+    cases (isOpen r)
+    (λ e. let q : suc j < suc (lowestFree t) = rw e at l in lower-open t j (omega arith))
+    (λ e. let q : suc j < 0 = rw e at l in absurd (omega arith))
+
 pub open-most : (t : List Record) → openRecords t ≤ length t
 unfolding openRecords
 open-most [] = omega arith

@@ -25,10 +25,11 @@ use Rattle.matching.specs.Lists.{openings, closings}
 use Rattle.matching.specs.Matching.{at, Good, entryIn, openRecords, plainOf, AsMap, Next, Follows}
 use Rattle.matching.specs.Matching.{FromFresh, FreshWall, WallIsMap}
 use Rattle.matching.proofs.Tables.{still-there, open-most, room, free-closed, none-open, fresh-none, fresh-open, fresh-at}
-use Rattle.matching.proofs.Once.{usable-told}
 use Rattle.matching.proofs.Fences.{passes, picked-skips}
 use Rattle.matching.proofs.Openings.{as-many-open, fence-picked, fence-closed, open-full, open-room}
 use Rattle.matching.proofs.Steps.{Zeros, did, did-good, did-size, did-leave, did-zeros, did-count, did-other, step-same}
+use Rattle.matching.proofs.Steps.{did-open, did-answer}
+use Rattle.matching.proofs.Unusable.{bad-table}
 
 -- ---- lists
 
@@ -87,7 +88,7 @@ as-map w list g =
     record {
       answers = run-same list w g;
       entries = λ f. ap (λ (p : Plain). p .requests f) e;
-      once = h .no-fence-twice;
+      once = h .taken .no-fence-twice;
       as-many = as-many-open (end w list .table) h ∙ ap (λ (p : Plain). howMany (p .requests)) e;
       last-fence = ap (λ (p : Plain). p .last) e;
       size = end-size list w g;
@@ -129,9 +130,11 @@ module _ (w : Wall) (g : Good (w .table)) where
   follows =
       record {
         next-fence = next-of;
+        opened = λ action z. did-open t g (w .last) action _ (did t g (w .last) (openCall action)) z;
+        answered = λ m z. did-answer t g (w .last) m _ (did t g (w .last) (replyCall (some m))) z;
+        refused-leaves = λ c n. did-leave t g (w .last) c _ (did t g (w .last) c) n;
         only-its-own = λ m f n. did-other t g (w .last) m _ (did t g (w .last) (replyCall (some m))) f n;
         full = full-of;
-        refused-leaves = λ c n. did-leave t g (w .last) c _ (did t g (w .last) c) n;
       }
 
 -- ---- from a fresh table
@@ -158,9 +161,12 @@ module _ (n : ℕ) where
   clear-good : 1 ≤ n → n ≤ 256 → Good (clear .table)
   clear-good l h =
       record {
-        some-records = rw (length-replicate n freeRecord) l;
-        not-too-many = rw (length-replicate n freeRecord) h;
-        no-fence-twice = λ w. true-false (sym (w .open-i) ∙ ap isOpen (fresh-at n (w .i)) ∙ free-closed);
+        taken =
+            record {
+              some-records = rw (length-replicate n freeRecord) l;
+              not-too-many = rw (length-replicate n freeRecord) h;
+              no-fence-twice = λ w. true-false (sym (w .open-i) ∙ ap isOpen (fresh-at n (w .i)) ∙ free-closed);
+            };
         sixteen-bits = λ i. rw (fresh-at n i) (omega arith);
       }
 
@@ -206,7 +212,7 @@ wallIsMap =
       any-table =
           λ t last g list. (as-map (wall t last) list g, follows (end (wall t last) list) (end-good list (wall t last) g));
       fresh-table = fresh-wall;
-      taken = usable-told;
+      bad-table = bad-table;
       asked-opening = asked-opening;
       asked-reply = asked-reply;
     }

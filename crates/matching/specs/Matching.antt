@@ -7,12 +7,12 @@ use mathlib.Core.Logic.{_↔_}
 use mathlib.Core.Bool.{true, false, cond}
 use mathlib.Core.List.{List, [], _∷_}
 use mathlib.Core.Option.{Option, none, some}
-use lib.ListN.{length, getD, replicate}
+use lib.ListN.{length, getD, set, replicate}
 use lib.Dec.{eqb}
 use Rattle.message.specs.declared.Message.{Message}
 use Rattle.requests.specs.declared.record.Record.{Record}
 use Rattle.requests.specs.declared.planning.Answer.{Answer}
-use Rattle.requests.specs.Table.{freeRecord, isOpen, hasFence, stillOpen, usable}
+use Rattle.requests.specs.Table.{freeRecord, isOpen, hasFence, stillOpen}
 use Rattle.requests.specs.Calls.{Outcome, fresh, asksOpening, asksReply, calling}
 use Rattle.matching.specs.Map.{Entry, Map, Plain, freshPlain, further, howMany}
 use Rattle.matching.specs.Lists.{Call, openCall, replyCall, Wall, wall, left, outcome, run, end, plainRun, plainEnd}
@@ -34,11 +34,15 @@ pub record OneFenceTwice (t : List Record) : Type 0 where
   pub open-j : isOpen (at t j) ≡ true
   pub one-fence : at t i .fence ≡ at t j .fence
 
--- a table that a call takes: 1 to 256 records, and no fence twice. A fence is a 16-bit number.
-pub record Good (t : List Record) : Type 0 where
+-- a table that calls take: it has neither 'Another table length' nor 'two open records with one fence'
+pub record Taken (t : List Record) : Type 0 where
   pub some-records : 1 ≤ length t
   pub not-too-many : length t ≤ 256
   pub no-fence-twice : OneFenceTwice t → ⊥
+
+-- and a fence is a 16-bit number
+pub record Good (t : List Record) : Type 0 where
+  pub taken : Taken t
   pub sixteen-bits : (i : ℕ) → at t i .fence < 65536
 
 -- the request of the open record with this fence, or none
@@ -77,12 +81,42 @@ pub record Next (isOpenAs : ℕ → Type 0) (last fence : ℕ) : Type 0 where
   pub not-open : isOpenAs fence → ⊥
   pub skipped : (k : ℕ) → k < d → isOpenAs (further last k)
 
+-- what an opening does to a table: 'uses the lowest free record', and no other
+pub record Opened (before after : List Record) (fence action : ℕ) : Type 0 where
+  pub i : ℕ
+  pub inside : i < length before
+  pub free : isOpen (at before i) ≡ false
+  pub lower-open : (j : ℕ) → j < i → isOpen (at before j) ≡ true
+  pub stored : after ≡ set before i (record { «is_open» = 1; fence = fence; action = action; count = 0 })
+
+-- the record with another count
+abbrev pub counting : Record → ℕ → Record
+counting r n = record { «is_open» = r .«is_open»; fence = r .fence; action = r .action; count = n }
+
+-- what an accepted reply does to a table: to the record with its fence, and to no other
+pub record Answered (before after : List Record) (fence : ℕ) (a : Answer) : Type 0 where
+  pub i : ℕ
+  pub inside : i < length before
+  pub its-own : hasFence fence (at before i) ≡ true
+  -- 'A .. closed record is free and all zeros'
+  pub closed : (a .kind ≡ 3 → ⊥) → after ≡ set before i freeRecord
+  -- 'busy adds one to its count': the count that is answered
+  pub busy : a .kind ≡ 3 → after ≡ set before i (counting (at before i) (a .count))
+
 -- of a wall, at any point of a list
 pub record Follows (w : Wall) : Type 0 where
   -- no fence is given out while it is open; and it is the next
   pub next-fence :
       (action : ℕ) → outcome w (openCall action) .answer .code ≡ 0
       → Next (λ (f : ℕ). stillOpen (w .table) f ≡ true) (w .last) (outcome w (openCall action) .answer .fence)
+  -- each accepted call stores one record, at the place that the request names; a refused one none
+  pub opened :
+      (action : ℕ) → outcome w (openCall action) .answer .code ≡ 0
+      → Opened (w .table) (outcome w (openCall action) .table) (outcome w (openCall action) .answer .fence) action
+  pub answered :
+      (m : Message) → outcome w (replyCall (some m)) .answer .code ≡ 0
+      → Answered (w .table) (outcome w (replyCall (some m)) .table) (m .fence) (outcome w (replyCall (some m)) .answer)
+  pub refused-leaves : (c : Call) → (outcome w c .answer .code ≡ 0 → ⊥) → left (outcome w c) ≡ w
   -- a reply never closes another's request, nor touches it: every other fence has what it had
   pub only-its-own :
       (m : Message) (g : ℕ) → (g ≡ m .fence → ⊥)
@@ -90,8 +124,6 @@ pub record Follows (w : Wall) : Type 0 where
   -- 26 exactly when as many are open as the table has records
   pub full :
       (action : ℕ) → (outcome w (openCall action) .answer .code ≡ 26) ↔ (openRecords (w .table) ≡ length (w .table))
-  -- a refused call leaves the wall as it was
-  pub refused-leaves : (c : Call) → (outcome w c .answer .code ≡ 0 → ⊥) → left (outcome w c) ≡ w
 
 -- of a wall that was made fresh
 pub record FromFresh (w : Wall) (list : List Call) : Type 0 where
@@ -116,18 +148,16 @@ pub record FreshWall (t : List Record) (last : ℕ) (list : List Call) : Type 0 
   pub from-fresh : FromFresh (begun t last) list
 
 pub record WallIsMap : Type 0 where
-  -- 'a lent table of 1 to 256 request records': from any, after every list
+  -- from any table that is taken, after every list
   pub any-table :
       (t : List Record) (last : ℕ) → Good t → (list : List Call)
       → AsMap (wall t last) (plainOf (wall t last)) list × Follows (end (wall t last) list)
   -- from a fresh one, after every list
   pub fresh-table :
       (t : List Record) (last : ℕ) → 1 ≤ length t → length t ≤ 256 → (list : List Call) → FreshWall t last list
-  -- 'Another table length, or two open records with one fence, is 35': the test that each call makes first passes
-  -- exactly the tables that are neither
-  pub taken :
-      (t : List Record)
-      → (usable t ≡ true) ↔ ((1 ≤ length t) × (length t ≤ 256) × (OneFenceTwice t → ⊥))
+  -- 'Another table length, or two open records with one fence, is 35, before all else.': every call answers it exactly
+  -- where its table is one of the two
+  pub bad-table : (w : Wall) (c : Call) → (outcome w c .answer .code ≡ 35) ↔ (Taken (w .table) → ⊥)
   -- what `wall::call` promises for what is asked is what the lists speak of
   pub asked-opening :
       (w : Wall) (action : ℕ) → calling (w .table) (w .last) (asksOpening action) ≡ outcome w (openCall action)

@@ -75,9 +75,9 @@ unfolding
     Calls.counted Calls.countAfter Calls.recordAfter Calls.answerOf Calls.replyAt Calls.replyBy Calls.reply
 of-walls =
     refl & refl & refl
-    & refl & refl & refl & refl & refl & refl
-    & refl & refl & refl & refl & refl & refl
     & refl & refl & refl & refl & refl & refl & refl
+    & refl & refl & refl & refl & refl & refl & refl & refl & refl
+    & refl & refl & refl & refl & refl & refl & refl & refl
     & refl & refl
     & tt
 
