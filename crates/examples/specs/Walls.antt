@@ -11,7 +11,7 @@ use Rattle.message.specs.declared.Origin.the-variants.{Host, Guc}
 use Rattle.requests.specs.declared.record.Record.{Record}
 use Rattle.requests.specs.Fence.{age}
 use Rattle.requests.specs.Table.{freeRecord}
-use Rattle.requests.specs.Calls.{Outcome, refusal, refused, fresh, opening, reply}
+use Rattle.requests.specs.Calls.{Outcome, numberAlone, refused, fresh, opening, reply}
 use Rattle.examples.specs.Example.{Example, _is_}
 
 -- an open record: fence, action, times answered busy
@@ -53,10 +53,10 @@ walls =
     ∷ (age 32767 65535 is negsuc 32767)
     -- 'A fresh or closed record is free and all zeros; the last fence starts at 65,535.'
     ∷ (fresh (flagged ∷ flagged ∷ dirty ∷ []) 9 is
-    record { answer = refusal 0; table = replicate 3 freeRecord; last = 65535 })
+    record { answer = numberAlone 0; table = replicate 3 freeRecord; last = 65535 })
     -- Ours: 1 and 256 records are made fresh, none and 257 are refused, whatever they hold
     ∷ (map (λ n. fresh (replicate n flagged) 9) (1 ∷ 256 ∷ [])
-    is map (λ n. record { answer = refusal 0; table = replicate n freeRecord; last = 65535 }) (1 ∷ 256 ∷ []))
+    is map (λ n. record { answer = numberAlone 0; table = replicate n freeRecord; last = 65535 }) (1 ∷ 256 ∷ []))
     ∷ (map (λ n. fresh (replicate n flagged) 9) (0 ∷ 257 ∷ [])
     is map (λ n. refused 35 (replicate n flagged) 9) (0 ∷ 257 ∷ []))
     -- 'picks the next fence, counting up from the last one used and wrapping at 65,536, .. and uses the lowest free record'

@@ -3,7 +3,7 @@ ghost use mathlib.Core.Path.{_≡_};
 ghost use lib.ListN.{getD};
 ghost use Rattle.message.specs.Packing.{unpack};
 ghost use Rattle.requests.specs.Fence.{age};
-ghost use Rattle.requests.specs.Calls.{refusal, given, fresh, opening, reply};
+ghost use Rattle.requests.specs.Calls.{numberAlone, given, fresh, opening, reply};
 use requests::Answer;
 use requests::Record;
 use requests::WALL_WORDS;
@@ -11,7 +11,7 @@ use requests::WALL_WORDS;
 #[no_mangle]
 pub extern "C" fn guc_wall_fresh(wall: &mut [u16; WALL_WORDS], table: &mut [Record]) -> u32
     ensures { λ r.
-        ⌜ given (refusal r) (now (table .exit)) (now (wall .exit))
+        ⌜ given (numberAlone r) (now (table .exit)) (now (wall .exit))
         ≡ fresh (now (table .entry)) (getD (now (wall .entry)) 0 0) ⌝ }
 {
     wall::fresh(wall, table)

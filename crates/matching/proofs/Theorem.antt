@@ -18,7 +18,7 @@ use Rattle.ring.proofs.Chains.{true-false}
 use Rattle.requests.specs.declared.record.Record.{Record}
 use Rattle.requests.specs.declared.planning.Answer.{Answer}
 use Rattle.requests.specs.Table.{freeRecord, isOpen, stillOpen, allowedLength, lowestFree}
-use Rattle.requests.specs.Calls.{refusal, refused, freshNumber, freshBy, fresh, reply, asksOpening, asksReply, calling}
+use Rattle.requests.specs.Calls.{numberAlone, refused, freshNumber, freshBy, fresh, reply, asksOpening, asksReply, calling}
 use Rattle.matching.specs.Map.{Plain, freshPlain, howMany, picked}
 use Rattle.matching.specs.Lists.{Call, openCall, replyCall, Wall, wall, left, outcome, run, end, plainRun, plainEnd}
 use Rattle.matching.specs.Lists.{openings, closings}
@@ -176,7 +176,7 @@ module _ (n : ℕ) where
 
 module _ (t : List Record) (last : ℕ) (l : 1 ≤ length t) (h : length t ≤ 256) where
   fresh-told :
-      fresh t last ≡ record { answer = refusal 0; table = replicate (length t) freeRecord; last = 65535 }
+      fresh t last ≡ record { answer = numberAlone 0; table = replicate (length t) freeRecord; last = 65535 }
   unfolding freshBy freshNumber allowedLength need
   fresh-told = rw (le-leb 1 (length t) l, le-leb (length t) 256 h)
 

@@ -77,7 +77,8 @@ pub data PublicCall : Type 0 where
   replyMessageCall : List Record → ℕ → Message → PublicCall
   replyDwordsCall : List Record → ℕ → List ℕ → PublicCall
 
--- the number that a call answers, by the definition that its contract cites
+-- the number that a call answers, by the definition that its contract cites. (Of an opening and of a reply: `wall::call`'s.
+-- Those for C cite `opening` and `reply`, which are the same: matching/specs/Matching, `asked-opening`, `asked-reply`.)
 abbrev pub numberOf : PublicCall → ℕ
 numberOf (openCall d b) = opening d b .code
 numberOf (operationCall op s d b) = gives op s d b .code

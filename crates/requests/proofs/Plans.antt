@@ -4,7 +4,9 @@ use mathlib.Core.Path.{_≡_}
 use mathlib.Core.Bool.{true, false, and-false}
 use mathlib.Core.List.{List}
 use lib.ListN.{length, getD, List·getD-map}
-use borrow.Author.Tests.{le-leb, lt-leb, lt-ltb, le-ltb, ne-eqb}
+use borrow.Author.Tests.{leb-true, lt-ltb, le-ltb, ne-eqb}
+use lib.Dec.{leb}
+use Rattle.message.proofs.Tests.{and-r}
 use Rattle.requests.specs.declared.record.Record.{Record}
 use Rattle.requests.specs.declared.asking.Ask.{Ask}
 use Rattle.requests.specs.Fence.{nextFence}
@@ -13,18 +15,10 @@ use Rattle.requests.specs.Calls.{isReply, openRecord, recordAfter, answe
 use Rattle.requests.specs.Words.{recordOf, records}
 use Rattle.requests.specs.Plan.{refusedPlan, openPlan, openLast, replyPlan, planOf, lastOf}
 
--- an allowed length, and others
-pub allowed-is : (n : ℕ) → 1 ≤ n → n ≤ 256 → allowedLength n ≡ true
+-- an allowed length
+pub allowed-most : (n : ℕ) → allowedLength n ≡ true → n ≤ 256
 unfolding allowedLength
-allowed-is n l h = rw (le-leb 1 n l, le-leb n 256 h)
-
-pub none-not : (n : ℕ) → n < 1 → allowedLength n ≡ false
-unfolding allowedLength
-none-not n l = rw (lt-leb 1 n l)
-
-pub long-not : (n : ℕ) → 256 < n → allowedLength n ≡ false
-unfolding allowedLength
-long-not n h = rw (lt-leb n 256 h, and-false)
+allowed-most n e = leb-true n 256 (and-r (leb 1 n) (leb n 256) e)
 
 -- the record at a place
 pub record-at : (words : List ℕ) (i : ℕ) → getD (records words) i freeRecord ≡ recordOf (getD words i 0)

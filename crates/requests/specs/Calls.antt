@@ -26,12 +26,12 @@ abbrev pub given : Answer → List Record → List ℕ → Outcome
 given r t wall = record { answer = r; table = t; last = getD wall 0 0 }
 
 -- an answer is the number, then an opening's fence, or a reply's kind (the message's HXG type) with the request's action
--- and count. What a call has no part in is 0.
-abbrev pub refusal : ℕ → Answer
-refusal c = record { code = c; kind = 0; fence = 0; action = 0; count = 0 }
+-- and count. What a call has no part in is 0, and on a refusal all but the number is.
+abbrev pub numberAlone : ℕ → Answer
+numberAlone c = record { code = c; kind = 0; fence = 0; action = 0; count = 0 }
 
 unfoldable pub refused : ℕ → List Record → ℕ → Outcome
-refused c t last = record { answer = refusal c; table = t; last = last }
+refused c t last = record { answer = numberAlone c; table = t; last = last }
 
 -- ---- 'A fresh .. record is free and all zeros; the last fence starts at 65,535.'
 
@@ -42,7 +42,7 @@ freshNumber t = need (allowedLength (length t)) 35 0
 unfoldable pub freshBy : ℕ → List Record → ℕ → Outcome
 freshBy c t last =
     cond (eqb c 0)
-    (record { answer = refusal 0; table = replicate (length t) freeRecord; last = firstLast })
+    (record { answer = numberAlone 0; table = replicate (length t) freeRecord; last = firstLast })
     (refused c t last)
 
 abbrev pub fresh : List Record → ℕ → Outcome
@@ -119,7 +119,7 @@ replyBy c kind fence t last = cond (eqb c 0) (replyAt (placeOf fence t) kind t l
 abbrev pub replying : List Record → ℕ → ℕ → ℕ → ℕ → Outcome
 replying t last c kind fence = replyBy (replyNumber t c kind fence) kind fence t last
 
--- what was received: 'A decoded success or failure of any origin', or none where it is malformed, which is 4
+-- what was received: a decoded message, 'of any origin', or none where it is malformed, which is 4
 unfoldable pub reply : List Record → ℕ → Option Message → Outcome
 reply t last none = replying t last 4 0 0
 reply t last (some m) = replying t last 0 (typeOf (m .body)) (m .fence)

@@ -10,14 +10,14 @@ use Rattle.requests.specs.declared.planning.Plan.{Plan}
 use Rattle.requests.specs.declared.asking.Ask.{Ask}
 use Rattle.requests.specs.Fence.{nextFence, firstLast}
 use Rattle.requests.specs.Table.{freeRecord, stillOpen, fenceTwice, allowedLength, lowestFree, placeOf}
-use Rattle.requests.specs.Calls.{Outcome, refusal, openRecord, isReply, recordAfter, answerOf}
+use Rattle.requests.specs.Calls.{Outcome, numberAlone, openRecord, isReply, recordAfter, answerOf}
 
 -- a plan, carried out: the record is stored at its place (the table's length where nothing is to be stored)
 unfoldable pub carried : Plan → List Record → List ℕ → Outcome
 carried p t wall = record { answer = p .answer; table = set t (p .at) (p .stored); last = getD wall 0 0 }
 
 abbrev pub refusedPlan : ℕ → ℕ → Plan
-refusedPlan c n = record { at = n; stored = freeRecord; answer = refusal c }
+refusedPlan c n = record { at = n; stored = freeRecord; answer = numberAlone c }
 
 -- the plan of an opening past 35, and the last fence after it
 unfoldable pub openPlan : List Record → ℕ → ℕ → Plan

@@ -8,6 +8,7 @@ ghost use Rattle.requests.specs.Table.{stillOpen, fenceTwice, lowestFree
 ghost use Rattle.requests.specs.Words.{records};
 ghost use Rattle.requests.specs.Private.{Marked};
 use crate::fence::after;
+use crate::record::fence_of;
 use crate::record::has_fence;
 use crate::record::is_open;
 
@@ -53,7 +54,7 @@ pub(crate) fn fence_twice(words: &[u64], flags: &mut [u8; FLAGS]) -> bool
     while i < words.len() {
         let word = words[i];
         if is_open(word) {
-            let fence = word / 0x1_0000 % 0x1_0000;
+            let fence = fence_of(word);
             let low = (fence % 256) as usize;
             if flags[low] != 0 {
                 if place_of(fence, &words[0..i]) < i {

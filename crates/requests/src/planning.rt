@@ -14,6 +14,7 @@ use crate::judging::next_fence;
 use crate::judging::place_of;
 use crate::record::RECORDS_MAX;
 use crate::record::Record;
+use crate::record::allowed;
 use crate::record::record_of;
 use crate::refusal;
 
@@ -131,6 +132,7 @@ fn answer_at(at: usize, kind: u32, r: Record) -> Plan
             },
         };
     }
+    // 'closed .. is free and all zeros'
     let zero = 0;
     Plan {
         at,
@@ -179,10 +181,7 @@ pub fn plan_call(
         × (getD (now (wall .exit)) 0 0
         ≡ lastOf (take n (records (now (words .entry)))) n (getD (now (wall .entry)) 0 0) ask) ⌝ }
 {
-    if n < 1 {
-        return refuse(refusal::BAD_TABLE, n);
-    }
-    if RECORDS_MAX < n {
+    if !allowed(n) {
         return refuse(refusal::BAD_TABLE, n);
     }
     let mut flags = [0; FLAGS];
@@ -206,13 +205,7 @@ pub struct Begun {
 pub fn begin(wall: &mut [u16; WALL_WORDS], n: usize) -> Begun
     ensures { λ r. ⌜ (r ≡ begun n) × (getD (now (wall .exit)) 0 0 ≡ begunLast n (getD (now (wall .entry)) 0 0)) ⌝ }
 {
-    if n < 1 {
-        return Begun {
-            code: refusal::BAD_TABLE,
-            records: 0,
-        };
-    }
-    if RECORDS_MAX < n {
+    if !allowed(n) {
         return Begun {
             code: refusal::BAD_TABLE,
             records: 0,

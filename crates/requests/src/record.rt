@@ -1,10 +1,17 @@
 // A record of a table, and the same in one word by value.
 ghost use mathlib.Core.Path.{_≡_};
-ghost use Rattle.requests.specs.Table.{isOpen, hasFence};
+ghost use Rattle.requests.specs.Table.{isOpen, hasFence, allowedLength};
 ghost use Rattle.requests.specs.Words.{recordOf, wordOf};
 
 // 'a lent table of 1 to 256 request records'
 pub const RECORDS_MAX: usize = 256;
+
+// Whether a table may have n records.
+pub(crate) fn allowed(n: usize) -> bool
+    ensures { λ r. ⌜ r ≡ allowedLength n ⌝ }
+{
+    (1 <= n) & (n <= RECORDS_MAX)
+}
 
 // A request, or a free record: 0 in `is_open` is free, any other number open. `count` is how often it was answered busy.
 #[repr(C)]
@@ -44,9 +51,16 @@ pub(crate) fn is_open(word: u64) -> bool
     word % 0x1_0000 != 0
 }
 
+// The fence of the record in a word, open or not.
+pub(crate) fn fence_of(word: u64) -> u64
+    ensures { λ r. ⌜ r ≡ recordOf word .fence ⌝ }
+{
+    word / 0x1_0000 % 0x1_0000
+}
+
 // Whether it is open with this fence.
 pub(crate) fn has_fence(fence: u64, word: u64) -> bool
     ensures { λ r. ⌜ r ≡ hasFence fence (recordOf word) ⌝ }
 {
-    is_open(word) & (word / 0x1_0000 % 0x1_0000 == fence)
+    is_open(word) & (fence_of(word) == fence)
 }

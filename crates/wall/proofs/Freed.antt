@@ -10,7 +10,7 @@ use Rattle.requests.specs.declared.record.Record.{Record}
 use Rattle.requests.specs.declared.planning.Begun.{Begun}
 use Rattle.requests.specs.Fence.{firstLast}
 use Rattle.requests.specs.Table.{freeRecord, allowedLength}
-use Rattle.requests.specs.Calls.{Outcome, refusal, refused, given, freshNumber, freshBy, fresh}
+use Rattle.requests.specs.Calls.{Outcome, numberAlone, refused, given, freshNumber, freshBy, fresh}
 use Rattle.requests.specs.Plan.{begun, begunLast}
 
 -- no more records are freed than there are
@@ -33,11 +33,11 @@ append-none (y ∷ ys) = ap (λ (zs : List Record). y ∷ zs) (append-none ys)
 pub made-fresh :
     (ys : List Record) (ws : List ℕ) (g : Begun) (us : List ℕ) (zs : List Record) → g ≡ begun (length ys)
     → getD us 0 0 ≡ begunLast (length ys) (getD ws 0 0) → zs ≡ replicate (g .records) freeRecord ++ drop (g .records) ys
-    → given (refusal (g .code)) zs us ≡ fresh ys (getD ws 0 0)
+    → given (numberAlone (g .code)) zs us ≡ fresh ys (getD ws 0 0)
 unfolding begun begunLast freshNumber freshBy refused need
 made-fresh ys ws g us zs eg eu ez =
     (λ i. record {
-      answer = refusal (eg i .code);
+      answer = numberAlone (eg i .code);
       table = (ez ∙ ap (λ (k : Begun). replicate (k .records) freeRecord ++ drop (k .records) ys) eg) i;
       last = eu i;
     }) ∙ by-test (allowedLength (length ys))
@@ -47,7 +47,7 @@ made-fresh ys ws g us zs eg eu ez =
     made t =
         let k = cond {A = Begun} t (record { code = 0; records = length ys }) (record { code = 35; records = 0 }) in
         record {
-          answer = refusal (k .code);
+          answer = numberAlone (k .code);
           table = replicate (k .records) freeRecord ++ drop (k .records) ys;
           last = cond t firstLast (getD ws 0 0);
         }
@@ -55,7 +55,7 @@ made-fresh ys ws g us zs eg eu ez =
     by-test : (t : Bool) → made t ≡ freshBy (need t 35 0) ys (getD ws 0 0)
     by-test true =
         λ i. record {
-          answer = refusal 0;
+          answer = numberAlone 0;
           table = (ap (λ (zs : List Record). replicate (length ys) freeRecord ++ zs) (drop-all ys)
               ∙ append-none (replicate (length ys) freeRecord)) i;
           last = firstLast;

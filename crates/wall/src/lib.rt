@@ -1,12 +1,12 @@
 // Replies matched to requests for a whole wall (document 02, T-06): the functions over a lent table. Their proofs are by
 // hand, so they are few and thin: each record is taken by value once, all is decided on those values (`requests`), and
-// one record is stored.
+// one record is stored, or none. Making a table fresh reads no record and stores all.
 ghost use mathlib.Core.Path.{_≡_};
 ghost use mathlib.Core.List.{_++_};
 ghost use Prim.Native.Nat.{_≤_};
 ghost use lib.ListN.{length, getD, set, drop, replicate};
 ghost use Rattle.requests.specs.Table.{freeRecord};
-ghost use Rattle.requests.specs.Calls.{refusal, given, calling, fresh};
+ghost use Rattle.requests.specs.Calls.{numberAlone, given, calling, fresh};
 ghost use Rattle.requests.specs.Plan.{carried};
 ghost use Rattle.wall.specs.Private.{kept};
 use requests::Answer;
@@ -82,7 +82,7 @@ fn clear(t: &mut [Record], m: usize)
 // Makes a table fresh, whatever it held: every record free, the last fence 65,535.
 pub fn fresh(wall: &mut [u16; WALL_WORDS], t: &mut [Record]) -> u32
     ensures { λ r.
-        ⌜ given (refusal r) (now (t .exit)) (now (wall .exit))
+        ⌜ given (numberAlone r) (now (t .exit)) (now (wall .exit))
         ≡ fresh (now (t .entry)) (getD (now (wall .entry)) 0 0) ⌝ }
 {
     let b = requests::begin(wall, t.len());

@@ -44,7 +44,7 @@ use denote.Triple.Table.{entered, cited}
 use denote.Triple.Walked.{says, Stays, gave-ref, gave-slice, walkOf, goes-gave-ref, goes-gave-slice}
 use denote.Triple.Walked.{Walks, ends-at, walked, walk-meets}
 use Rattle.requests.specs.Table.{freeRecord}
-use Rattle.requests.specs.Calls.{refusal, given, fresh}
+use Rattle.requests.specs.Calls.{numberAlone, given, fresh}
 use Rattle.requests.specs.Plan.{begun, begunLast}
 use Rattle.requests.specs.declared.record.Record.{Record}
 use Rattle.requests.specs.declared.planning.Begun.{Begun}
@@ -170,7 +170,7 @@ module _ {M : Type 1} (𝓤 : URA M) (H : Heap 𝓤) (A : Atoms 𝓤) (W : Given
   abbrev Cleared : Begun → List Record → Type 0
   Cleared g zs = zs ≡ replicate (g .records) freeRecord ++ without (g .records) ys
 
-  exits : (c : ℕ) (us : List ℕ) (zs : List Record) → c < 2 ^ 32 → given (refusal c) zs us ≡ fresh ys (getD ws 0 0) → length zs ≡ n
+  exits : (c : ℕ) (us : List ℕ) (zs : List Record) → c < 2 ^ 32 → given (numberAlone c) zs us ≡ fresh ys (getD ws 0 0) → length zs ≡ n
       → ent 𝓤 (⋆ 𝓤 H A ((‵ (flft κ₁ q₁) ⊛ ‵ ftrue) ∷ (‵ (flft κ q) ⊛ ‵ ftrue) ∷ ‵ (fres γ₁ (State .coded .code us))
       ∷ ‵ (finally R γ zs) ∷ [])) (Post (vint w32 c))
   exits c us zs gc e l =

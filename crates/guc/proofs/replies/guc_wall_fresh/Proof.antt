@@ -43,7 +43,7 @@ use denote.Triple.Spec.{Meets, tripleOf}
 use denote.Triple.Table.{entered, cited}
 use denote.Triple.Walked.{says, Stays, gave-ref, gave-slice, walkOf, goes-gave-ref}
 use denote.Triple.Walked.{goes-gave-slice, Walks, ends-at, walked, walk-meets}
-use Rattle.requests.specs.Calls.{refusal, given, fresh}
+use Rattle.requests.specs.Calls.{numberAlone, given, fresh}
 use Rattle.requests.specs.declared.record.Record.{Record}
 use Rattle.requests.proofs.record.Record as T
 use Rattle.wall.proofs.fresh as made
@@ -123,7 +123,7 @@ module _ {M : Type 1} (𝓤 : URA M) (H : Heap 𝓤) (A : Atoms 𝓤) (W : Given
       $ frame ! $ done !
 
   abbrev Made : ℕ → List ℕ → List Record → Type 0
-  Made c us zs = given (refusal c) zs us ≡ fresh ys (getD ws 0 0)
+  Made c us zs = given (numberAlone c) zs us ≡ fresh ys (getD ws 0 0)
 
   exits : (c : ℕ) (us : List ℕ) (zs : List Record) → c < 2 ^ 32 → Made c us zs → length zs ≡ length ys
       → ent 𝓤 (⋆ 𝓤 H A ((‵ (flft κ₁ q₁) ⊛ ‵ (flft κ q) ⊛ ‵ ftrue) ∷ ‵ (fres γ₁ (State .coded .code us))

@@ -29,33 +29,32 @@ loop-holds : tie.Need-loop-holds Inv-loop μ-loop
 loop-holds c = (omega arith, passed-none _ (c .before .pre))
 
 returns : tie.Need-returns Inv-loop μ-loop
-unfolding recordOf
 returns c =
-    let asked = c .before .before .before .before .before .before in
+    let asked = c .before .before .before .before .before .before .before in
     let at = asked .before .before .before in
     let words = now (at .before .before .args .words) in
     let i = at .loop .i in
-    let o = sym (asked .is-open .ensures) ∙ c .before .before .before .before .before .if1 .taken in
-    let b = before-open _ words i (omega arith) (c .before .place-of .ensures) (c .if3 .taken) in
+    let o = sym (asked .is-open .ensures) ∙ c .before .before .before .before .before .before .if1 .taken in
+    let f = c .before .before .before .before .before .fence-of .ensures in
+    let b = rw f at (before-open _ words i (omega arith) (c .before .place-of .ensures) (c .if3 .taken)) in
     (sym (rw (parted words i (omega arith)) (twice-at _ (recordOf (getD words i 0)) _ o b)), λ e f q z. true-false e)
 
 -- an open record that is passed: its fence is not open before it
 fresh :
     (c : tie.Joined2 Inv-loop μ-loop)
-    → let at = c .before .before .before .before .before .before in
+    → let at = c .before .before .before .before .before .before .before in
     let words = now (at .before .before .args .words) in
     stillOpen (records (take (at .loop .i) words)) (recordOf (getD words (at .loop .i) 0) .fence) ≡ false
-unfolding recordOf
 fresh c =
-    let at = c .before .before .before .before .before .before in
+    let at = c .before .before .before .before .before .before .before in
     let words = now (at .before .before .args .words) in
-    ⊎-elim
+    rw (sym (c .before .before .fence-of .ensures))
+    (⊎-elim
     (λ w. before-closed _ words (at .loop .i) (omega arith) (w .2 .ensures) (w .3 .left))
     (λ w. unmarked _ (at .loop .flags) _ (at .loop .inv .1 .marked) (w .left))
-    (c .if2 .came)
+    (c .if2 .came))
 
 loop-again : tie.Need-loop-again Inv-loop μ-loop
-unfolding recordOf
 loop-again c =
     let at = c .before .before .before .before in
     let words = now (at .before .before .args .words) in
@@ -66,8 +65,8 @@ loop-again c =
     ⊎-elim
     (λ w.
     let marking : tie.After-if22 Inv-loop μ-loop =
-    record { before = record { before = c .before; if1 = w .0 }; if22 = w .1 } in
-    rw (w .3) (passed-open s r (at .loop .flags) p (fresh (record { before = marking; if2 = w .2 }))))
+    record { before = record { before = record { before = c .before; if1 = w .0 }; fence-of = w .1 }; if22 = w .2 } in
+    rw (w .4, w .1 .ensures) (passed-open s r (at .loop .flags) p (fresh (record { before = marking; if2 = w .3 }))))
     (λ w. rw (w .1) (passed-free s r (at .loop .flags) p (sym (c .before .is-open .ensures) ∙ w .0 .left)))
     (c .if1 .came) in
     (omega arith, rw (more words (at .loop .i) (omega arith)) passed)
@@ -88,6 +87,7 @@ fence-twice-spec =
     loop-holds
     (λ c. search needs)
     (λ c. search needs)
+    (λ c κs. search needs)
     (λ c κs. search needs)
     (λ c. omega arith)
     (λ c. search needs)

@@ -9,11 +9,11 @@ use native.Mathlib.Omega.{arith}
 use lib.ListN.{take}
 use denote.Ref.{now}
 use borrow.Author.Needs.{needs}
+use borrow.Author.Tests.{not-true, not-false}
 use Rattle.requests.specs.Words.{records}
 use Rattle.requests.specs.Table.{fenceTwice, allowedLength}
 use Rattle.requests.proofs.Walks.{take-records}
-use Rattle.requests.proofs.Plans.{allowed-is, none-not, long-not}
-use Rattle.requests.proofs.Plans.{plan-unfit, last-unfit, plan-twice, last-twice}
+use Rattle.requests.proofs.Plans.{allowed-most, plan-unfit, last-unfit, plan-twice, last-twice}
 use Rattle.requests.proofs.Plans.{plan-opens, last-opens, plan-replies, last-replies}
 use Rattle.requests.proofs.planning.plan_call.Statement.{statement}
 use Rattle.requests.proofs.planning.plan_call.Tie as tie
@@ -24,64 +24,68 @@ lent n words = rw (sub-zero, take-records)
 
 returns : tie.Need-returns
 returns c =
-    let e = none-not _ (c .before .if1 .taken) in
+    let e = sym (c .before .before .allowed .ensures) ∙ not-true _ (c .before .if1 .taken) in
     (c .refuse .ensures ∙ sym (plan-unfit _ _ _ _ e), sym (last-unfit _ _ _ _ e))
 
 returns-2 : tie.Need-returns-2
 returns-2 c =
-    let e = long-not _ (c .before .if2 .taken) in
-    (c .refuse2 .ensures ∙ sym (plan-unfit _ _ _ _ e), sym (last-unfit _ _ _ _ e))
-
-returns-3 : tie.Need-returns-3
-returns-3 c =
     let q = c .before .before in
-    let e = sym (rw lent at (q .fence-twice .ensures .0)) ∙ c .before .if3 .taken in
-    (c .refuse3 .ensures ∙ sym (plan-twice _ _ _ _ e), sym (last-twice _ _ _ _ e))
+    let e = sym (rw lent at (q .fence-twice .ensures .0)) ∙ c .before .if2 .taken in
+    (c .refuse2 .ensures ∙ sym (plan-twice _ _ _ _ e), sym (last-twice _ _ _ _ e))
 
 plan-open-requires : tie.Need-plan-open-requires
 plan-open-requires c κs =
     let q = c .before .before .before in
-    (q .before .fence-twice .ensures .1 (q .if3 .left), c .plan-open-arg .given .0 .1)
+    (q .before .fence-twice .ensures .1 (q .if2 .left), c .plan-open-arg .given .0 .1)
+
+is-allowed : (q : tie.Else1) → allowedLength (q .before .before .args .n) ≡ true
+is-allowed q = sym (q .before .allowed .ensures) ∙ not-false _ (q .if1 .left)
 
 -- past the tests of the table it is fit
-abbrev start : tie.Else3 → tie.Start
-start q = q .before .before .before .before .before .before .before
+abbrev judged : tie.Else2 → tie.Else1
+judged q = q .before .before .before .before .before
 
-fit : (q : tie.Else3) → allowedLength (start q .args .n) ≡ true
-fit q = allowed-is (start q .args .n) (omega arith) (omega arith)
+abbrev start : tie.Else2 → tie.Start
+start q = judged q .before .before
 
-once : (q : tie.Else3) → fenceTwice (take (start q .args .n) (records (now (start q .args .words)))) ≡ false
-once q = sym (rw lent at (q .before .fence-twice .ensures .0)) ∙ q .if3 .left
+fit : (q : tie.Else2) → allowedLength (start q .args .n) ≡ true
+fit q = is-allowed (judged q)
 
-returns-4 : tie.Need-returns-4
-returns-4 c =
+once : (q : tie.Else2) → fenceTwice (take (start q .args .n) (records (now (start q .args .words)))) ≡ false
+once q = sym (rw lent at (q .before .fence-twice .ensures .0)) ∙ q .if2 .left
+
+returns-3 : tie.Need-returns-3
+returns-3 c =
     let q = c .before .before .before .before in
-    let o = c .before .before .before .if4 .taken in
+    let o = c .before .before .before .if3 .taken in
     let e = rw lent at (c .plan-open .ensures) in
     (e .0 ∙ sym (plan-opens _ _ _ _ (fit q) (once q) o), e .1 ∙ sym (last-opens _ _ _ _ (fit q) (once q) o))
 
-returns-5 : tie.Need-returns-5
-returns-5 c =
+returns-4 : tie.Need-returns-4
+returns-4 c =
     let q = c .before .before in
-    let o = c .before .if4 .left in
+    let o = c .before .if3 .left in
     let e = rw lent at (c .plan-reply .ensures) in
     (e ∙ sym (plan-replies _ _ _ _ (fit q) (once q) o), sym (last-replies _ _ _ _ (fit q) (once q) o))
+
+-- as many words are there
+part-table-end : tie.Need-part-table-end
+part-table-end c = let h = allowed-most (c .before .before .before .args .n) (is-allowed (c .before)) in omega arith
 
 pub plan-call-spec : {M : Type 1} → statement M
 plan-call-spec =
     tie.close
     (tie.spec
     (λ c κs. search needs)
+    (λ c κs. search needs)
     returns
+    (λ c. search needs)
+    (λ c. search needs)
+    part-table-end
+    (λ c κs. search needs)
     (λ c κs. search needs)
     returns-2
-    (λ c. search needs)
-    (λ c. search needs)
-    (λ c. search needs)
-    (λ c κs. search needs)
-    (λ c κs. search needs)
-    returns-3
     plan-open-requires
-    returns-4
+    returns-3
     (λ c κs. search needs)
-    returns-5)
+    returns-4)
