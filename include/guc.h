@@ -214,7 +214,7 @@ struct guc_record {
 struct guc_wall { uint16_t last; };
 
 /* What a call of a wall answers: a number, then an opening's fence, or a reply's kind with the
- * request's action and count. The others are 0, and on a refusal all are. */
+ * request's action and count. The others are 0, and on a refusal all but code are. */
 struct guc_wall_answer {
 	uint32_t code;
 	uint32_t kind;   /* GUC_TYPE_BUSY, _RETRY, _FAILURE or _SUCCESS */
@@ -357,8 +357,8 @@ GUC_ANSWER struct guc_unpacked guc_unpack(const uint32_t *msg, size_t len);
  *
  * Many requests under way at once, and each reply finds its own. table and records are a table of
  * that many records, 1 to GUC_RECORDS_MAX; table and wall are the caller's, one call at a time.
- * Nothing is sent or received here: open, send a request with the fence that was given, receive,
- * and hand each received message to guc_wall_reply.
+ * Nothing is sent or received here: make the table fresh once, then open, send a request with the
+ * fence that was given, receive, and hand each received message to guc_wall_reply.
  *
  * An opening or a reply answers 35, before any other number, for another number of records or for
  * two open records with one fence. It takes each record into a copy of its own once, judges and
@@ -387,7 +387,8 @@ GUC_ANSWER struct guc_wall_answer guc_wall_reply(struct guc_wall *wall, struct g
     size_t records, const uint32_t *msg, size_t msg_len);
 
 /* The age of a fence beside the newest one: fence less newest, modulo 65,536, from -32,768 to
- * 32,767. 0 is the newest itself, below 0 are older ones; fence 0 with newest 65,535 is 1. */
+ * 32,767. 0 is the newest itself, below 0 are older ones, by up to 32,768 fences: one further behind
+ * reads above 0. fence 0 with newest 65,535 is 1. The newest of a wall is its last. */
 GUC_ANSWER int32_t guc_wall_age(uint16_t fence, uint16_t newest);
 
 /* FIRMWARE

@@ -12,7 +12,7 @@ pub(crate) fn after(fence: u16) -> u16
     if fence == 65535 { 0 } else { fence + 1 }
 }
 
-// How old a fence is beside the newest one: 0 for the newest itself, below 0 for older ones.
+// How old a fence is beside the newest one: 0 for the newest itself, below 0 for older ones, by up to 32,768 fences.
 pub fn age(fence: u16, newest: u16) -> i32
     ensures { λ r. ⌜ r ≡ age fence newest ⌝ }
 {
