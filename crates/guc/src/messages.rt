@@ -165,7 +165,16 @@ fn said(
     first: u32,
     second: u32,
 ) -> Unpacked
-    ensures { λ r. ⌜ r ≡ record { code = 0; origin = origin; fence = fence; «num_dwords» = «num_dwords»; «hxg_type» = «hxg_type»; first = first; second = second } ⌝ }
+    ensures { λ r.
+        ⌜ r ≡ record {
+          code = 0;
+          origin = origin;
+          fence = fence;
+          «num_dwords» = «num_dwords»;
+          «hxg_type» = «hxg_type»;
+          first = first;
+          second = second;
+        } ⌝ }
 {
     Unpacked {
         code: 0,

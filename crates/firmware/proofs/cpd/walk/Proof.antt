@@ -42,7 +42,8 @@ entries-again c =
     let at-entries = c .before .before .before in
     let a = at-entries .before .before .before .args in
     passes _ (a .count) (at-entries .entries .i) (omega arith)
-    (front-differs (a .blob .now) (a .t5) _ (λ e. c .if2 .taken (c .before .front-at .ensures ∙ e ∙ sym (at-entries .before .front .ensures))))
+    (front-differs (a .blob .now) (a .t5) _ (λ e.
+    c .if2 .taken (c .before .front-at .ensures ∙ e ∙ sym (at-entries .before .front .ensures))))
     (at-entries .entries .inv)
 
 loop-holds : tie.Need-loop-holds Inv-loop μ-loop Inv-entries μ-entries
