@@ -1,20 +1,19 @@
 -- T-06, 'Prove that each call does what a plain map from fences to requests does': one statement about whole lists of
 -- openings and replies, from any table that 35 lets pass and from a fresh one, with what follows that people will ask
 -- for.
-use Prim.Native.Nat.{ℕ, _+_, _%_, _<_, _≤_}
+use Prim.Native.Nat.{ℕ, _+_, _<_, _≤_}
 use mathlib.Core.Path.{_≡_}
 use mathlib.Core.Logic.{_↔_}
 use mathlib.Core.Bool.{true, false, cond}
 use mathlib.Core.List.{List, [], _∷_}
 use mathlib.Core.Option.{Option, none, some}
 use lib.ListN.{length, getD, set, replicate}
-use lib.Dec.{eqb}
 use Rattle.message.specs.declared.Message.{Message}
 use Rattle.requests.specs.declared.record.Record.{Record}
 use Rattle.requests.specs.declared.planning.Answer.{Answer}
 use Rattle.requests.specs.Table.{freeRecord, isOpen, hasFence, stillOpen}
-use Rattle.requests.specs.Calls.{Outcome, fresh, asksOpening, asksReply, calling}
-use Rattle.matching.specs.Map.{Entry, Map, Plain, freshPlain, further, howMany}
+use Rattle.requests.specs.Calls.{fresh, asksOpening, asksReply, calling}
+use Rattle.matching.specs.Map.{Map, Plain, freshPlain, further, howMany}
 use Rattle.matching.specs.Lists.{Call, openCall, replyCall, Wall, wall, left, outcome, run, end, plainRun, plainEnd}
 use Rattle.matching.specs.Lists.{openings, closings}
 

@@ -1,7 +1,7 @@
 -- The table of requests (document 02, T-06): 'a lent table of 1 to 256 request records, each free or open with its
 -- fence, action and times answered busy'.
 use Prim.Native.Nat.{ℕ, suc}
-use mathlib.Core.Bool.{Bool, true, false, not, _&&_, _||_, cond}
+use mathlib.Core.Bool.{Bool, false, not, _&&_, _||_, cond}
 use mathlib.Core.List.{List, [], _∷_}
 use lib.ListN.{length}
 use lib.Dec.{eqb, leb}

@@ -1,12 +1,12 @@
-// What a call does, planned on a table's words: its answer, and the one record that is stored.
+// What a call does, planned on a table's words: its answer, the one record that is stored, and the last fence from then
+// on. Nothing is written here.
 ghost use mathlib.Core.Path.{_≡_};
-ghost use lib.ListN.{length, getD, take};
+ghost use lib.ListN.{take};
 ghost use Rattle.requests.specs.Calls.{isReply, counted, recordAfter, answerOf};
 ghost use Rattle.requests.specs.Words.{records};
-ghost use Rattle.requests.specs.Plan.{refusedPlan, openPlan, openLast, replyPlan, planOf, lastOf, begun, begunLast};
+ghost use Rattle.requests.specs.Plan.{refusedPlan, openPlan, replyPlan, planOf};
 ghost use Rattle.requests.specs.Private.{Marked};
 use crate::asking::Ask;
-use crate::fence::FIRST_LAST;
 use crate::judging::FLAGS;
 use crate::judging::fence_twice;
 use crate::judging::lowest_free;
@@ -17,9 +17,6 @@ use crate::record::Record;
 use crate::record::allowed;
 use crate::record::record_of;
 use crate::refusal;
-
-// The state of a wall is one word, the last fence.
-pub const WALL_WORDS: usize = 1;
 
 // What a call answers: a number, then an opening's fence, or a reply's kind with the request's action and count. What a
 // call has no part in is 0, and on a refusal all is.
@@ -32,16 +29,18 @@ pub struct Answer {
     pub count: u16,
 }
 
-// What a call does: its answer, and the record that is stored at a place (the table's length for nothing).
+// What a call does: its answer, the record that is stored at a place (the table's length for nothing), and the last fence
+// after it.
 pub struct Plan {
     pub at: usize,
     pub stored: Record,
     pub answer: Answer,
+    pub last: u16,
 }
 
-// A refusal stores nothing in a table of n records.
-fn refuse(code: u32, n: usize) -> Plan
-    ensures { λ r. ⌜ r ≡ refusedPlan code n ⌝ }
+// A refusal stores nothing in a table of n records, and leaves the last fence.
+fn refuse(code: u32, n: usize, last: u16) -> Plan
+    ensures { λ r. ⌜ r ≡ refusedPlan code n last ⌝ }
 {
     Plan {
         at: n,
@@ -58,22 +57,20 @@ fn refuse(code: u32, n: usize) -> Plan
             action: 0,
             count: 0,
         },
+        last,
     }
 }
 
 // An opening at the lowest free record, or 26.
-fn plan_open(words: &[u64], flags: &[u8; FLAGS], wall: &mut [u16], action: u16) -> Plan
+fn plan_open(words: &[u64], flags: &[u8; FLAGS], last: u16, action: u16) -> Plan
     requires { ⌜ Marked (records (now words)) (now flags) ⌝ }
-    requires { ⌜ length (now wall) ≡ 1 ⌝ }
-    ensures { λ r. ⌜ r ≡ openPlan (records (now (words .entry))) (getD (now (wall .entry)) 0 0) action ⌝ }
-    ensures { λ r. ⌜ getD (now (wall .exit)) 0 0 ≡ openLast (records (now (words .entry))) (getD (now (wall .entry)) 0 0) ⌝ }
+    ensures { λ r. ⌜ r ≡ openPlan (records (now (words .entry))) last action ⌝ }
 {
     let at = lowest_free(words);
     if at == words.len() {
-        return refuse(refusal::TABLE_FULL, at);
+        return refuse(refusal::TABLE_FULL, at, last);
     }
-    let fence = next_fence(words, flags, wall[0]);
-    wall[0] = fence;
+    let fence = next_fence(words, flags, last);
     Plan {
         at,
         stored: Record {
@@ -89,6 +86,7 @@ fn plan_open(words: &[u64], flags: &[u8; FLAGS], wall: &mut [u16], action: u16) 
             action: 0,
             count: 0,
         },
+        last: fence,
     }
 }
 
@@ -110,8 +108,8 @@ fn counted(n: u16) -> u16
 }
 
 // A reply of this kind to the record at a place: busy counts, the others close it.
-fn answer_at(at: usize, kind: u32, r: Record) -> Plan
-    ensures { λ p. ⌜ p ≡ record { at = at; stored = recordAfter kind r; answer = answerOf kind r } ⌝ }
+fn answer_at(at: usize, kind: u32, r: Record, last: u16) -> Plan
+    ensures { λ p. ⌜ p ≡ record { at = at; stored = recordAfter kind r; answer = answerOf kind r; last = last } ⌝ }
 {
     if kind == message::TYPE_BUSY {
         let count = counted(r.count);
@@ -130,6 +128,7 @@ fn answer_at(at: usize, kind: u32, r: Record) -> Plan
                 action: r.action,
                 count,
             },
+            last,
         };
     }
     // 'closed .. is free and all zeros'
@@ -149,72 +148,42 @@ fn answer_at(at: usize, kind: u32, r: Record) -> Plan
             action: r.action,
             count: r.count,
         },
+        last,
     }
 }
 
 // A reply to the open record with its fence, or 27; before that the number that refused its message.
-fn plan_reply(words: &[u64], code: u32, kind: u32, fence: u32) -> Plan
-    ensures { λ r. ⌜ r ≡ replyPlan (records (now (words .entry))) code kind fence ⌝ }
+fn plan_reply(words: &[u64], last: u16, code: u32, kind: u32, fence: u32) -> Plan
+    ensures { λ r. ⌜ r ≡ replyPlan (records (now (words .entry))) last code kind fence ⌝ }
 {
     if code != 0 {
-        return refuse(code, words.len());
+        return refuse(code, words.len(), last);
     }
     let at = place_of(fence as u64, words);
     if at == words.len() {
-        return refuse(refusal::NO_REQUEST, at);
+        return refuse(refusal::NO_REQUEST, at, last);
     }
     if !is_reply(kind) {
-        return refuse(refusal::NO_REQUEST, words.len());
+        return refuse(refusal::NO_REQUEST, words.len(), last);
     }
-    answer_at(at, kind, record_of(words[at]))
+    answer_at(at, kind, record_of(words[at]), last)
 }
 
 // What is asked, planned for a table of n records that the words hold. 35 comes before all else.
-pub fn plan_call(
-    words: &[u64; RECORDS_MAX],
-    n: usize,
-    wall: &mut [u16; WALL_WORDS],
-    ask: Ask,
-) -> Plan
-    ensures { λ r.
-        ⌜ (r ≡ planOf (take n (records (now (words .entry)))) n (getD (now (wall .entry)) 0 0) ask)
-        × (getD (now (wall .exit)) 0 0
-        ≡ lastOf (take n (records (now (words .entry)))) n (getD (now (wall .entry)) 0 0) ask) ⌝ }
+pub fn plan_call(words: &[u64; RECORDS_MAX], n: usize, last: u16, ask: Ask) -> Plan
+    ensures { λ r. ⌜ r ≡ planOf (take n (records (now (words .entry)))) n last ask ⌝ }
 {
     if !allowed(n) {
-        return refuse(refusal::BAD_TABLE, n);
+        return refuse(refusal::BAD_TABLE, n, last);
     }
     let mut flags = [0; FLAGS];
     let all = &words[..];
     let table = &all[0..n];
     if fence_twice(table, &mut flags) {
-        return refuse(refusal::BAD_TABLE, n);
+        return refuse(refusal::BAD_TABLE, n, last);
     }
     if ask.opening {
-        return plan_open(table, &flags, &mut wall[..], ask.action);
+        return plan_open(table, &flags, last, ask.action);
     }
-    plan_reply(table, ask.code, ask.kind, ask.fence)
-}
-
-// What making a table fresh begins with: 0 and how many records are to be freed, or 35 and none.
-pub struct Begun {
-    pub code: u32,
-    pub records: usize,
-}
-
-pub fn begin(wall: &mut [u16; WALL_WORDS], n: usize) -> Begun
-    ensures { λ r. ⌜ (r ≡ begun n) × (getD (now (wall .exit)) 0 0 ≡ begunLast n (getD (now (wall .entry)) 0 0)) ⌝ }
-{
-    if !allowed(n) {
-        return Begun {
-            code: refusal::BAD_TABLE,
-            records: 0,
-        };
-    }
-    let state = &mut wall[..];
-    state[0] = FIRST_LAST;
-    Begun {
-        code: 0,
-        records: n,
-    }
+    plan_reply(table, last, ask.code, ask.kind, ask.fence)
 }

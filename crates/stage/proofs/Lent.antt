@@ -19,7 +19,6 @@ use ghost.Atoms.{Atoms, sem}
 use contract.Monad.{Fun}
 use types.Kit.{Given, ‵, _⊛_, _$_, _∵_, !, qed, move}
 use types.Kit.{join, fjoin, frame, done}
-use types.Run.{from}
 use denote.RattleType.{RattleType}
 use denote.Laws.{Is}
 use denote.Memory.{pointee}

@@ -1,26 +1,34 @@
--- What `begin` and `clear` make of a table is what making it fresh is defined to be.
-use mathlib.Core.Path.{_≡_, refl, sym, _∙_, ap, subst}
-use Prim.Native.Nat.{ℕ, zero, suc, _≤_}
+-- What `clear` and `begin` make of a table and a state is what making it fresh is defined to be.
+use mathlib.Core.Path.{_≡_, refl, sym, _∙_, ap}
+use Prim.Native.Nat.{ℕ}
 use native.Mathlib.Omega.{arith}
-use mathlib.Core.Bool.{Bool, true, false, cond}
+use mathlib.Core.Bool.{true, false}
 use mathlib.Core.List.{List, [], _∷_, _++_}
 use lib.ListN.{length, getD, drop, replicate}
+use lib.Dec.{leb}
+use borrow.Author.Tests.{leb-false}
+use Rattle.message.proofs.Tests.{and-r, cases}
 use Rattle.ring.specs.Numbers.{need}
 use Rattle.requests.specs.declared.record.Record.{Record}
-use Rattle.requests.specs.declared.planning.Begun.{Begun}
-use Rattle.requests.specs.Fence.{firstLast}
 use Rattle.requests.specs.Table.{freeRecord, allowedLength}
-use Rattle.requests.specs.Calls.{Outcome, numberAlone, refused, given, freshNumber, freshBy, fresh}
+use Rattle.requests.specs.Calls.{numberAlone, refused, given, freshNumber, freshBy, fresh}
 use Rattle.requests.specs.Plan.{begun, begunLast}
+use Rattle.wall.specs.Private.{kept}
 
--- no more records are freed than there are
-pub within : (n : ℕ) (g : Begun) → g ≡ begun n → g .records ≤ n
-unfolding begun
-within n g e = subst (λ (k : Begun). k .records ≤ n) (sym e) (by-test (allowedLength n))
+-- of an allowed number of records all are freed, of another none
+allowed-all : (n : ℕ) → allowedLength n ≡ true → kept n ≡ n
+unfolding allowedLength kept
+allowed-all n e = rw (and-r (leb 1 n) (leb n 256) e)
+
+other-none : (n : ℕ) → allowedLength n ≡ false → kept n ≡ 0
+unfolding allowedLength kept
+other-none n e =
+    cases (leb n 256)
+    (λ h. let low = leb-false 1 n (alone h) in rw h (omega arith))
+    (λ h. rw h)
   where
-    by-test : (t : Bool) → cond {A = Begun} t (record { code = 0; records = n }) (record { code = 35; records = 0 }) .records ≤ n
-    by-test true = omega arith
-    by-test false = omega arith
+    alone : leb n 256 ≡ true → leb 1 n ≡ false
+    alone h = cases (leb 1 n) (λ l. sym (rw (l, h)) ∙ e) (λ l. l)
 
 drop-all : (ys : List Record) → drop (length ys) ys ≡ []
 drop-all [] = refl
@@ -31,33 +39,18 @@ append-none [] = refl
 append-none (y ∷ ys) = ap (λ (zs : List Record). y ∷ zs) (append-none ys)
 
 pub made-fresh :
-    (ys : List Record) (ws : List ℕ) (g : Begun) (us : List ℕ) (zs : List Record) → g ≡ begun (length ys)
-    → getD us 0 0 ≡ begunLast (length ys) (getD ws 0 0) → zs ≡ replicate (g .records) freeRecord ++ drop (g .records) ys
-    → given (numberAlone (g .code)) zs us ≡ fresh ys (getD ws 0 0)
+    (ys : List Record) (ws : List ℕ) (m c : ℕ) (us : List ℕ) (zs : List Record) → m ≡ kept (length ys)
+    → zs ≡ replicate m freeRecord ++ drop m ys → c ≡ begun (length ys)
+    → getD us 0 0 ≡ begunLast (length ys) (getD ws 0 0) → given (numberAlone c) zs us ≡ fresh ys (getD ws 0 0)
 unfolding begun begunLast freshNumber freshBy refused need
-made-fresh ys ws g us zs eg eu ez =
-    (λ i. record {
-      answer = numberAlone (eg i .code);
-      table = (ez ∙ ap (λ (k : Begun). replicate (k .records) freeRecord ++ drop (k .records) ys) eg) i;
-      last = eu i;
-    }) ∙ by-test (allowedLength (length ys))
-  where
-    -- what comes out, by whether the length is allowed
-    made : Bool → Outcome
-    made t =
-        let k = cond {A = Begun} t (record { code = 0; records = length ys }) (record { code = 35; records = 0 }) in
-        record {
-          answer = numberAlone (k .code);
-          table = replicate (k .records) freeRecord ++ drop (k .records) ys;
-          last = cond t firstLast (getD ws 0 0);
-        }
-
-    by-test : (t : Bool) → made t ≡ freshBy (need t 35 0) ys (getD ws 0 0)
-    by-test true =
-        λ i. record {
-          answer = numberAlone 0;
-          table = (ap (λ (zs : List Record). replicate (length ys) freeRecord ++ zs) (drop-all ys)
-              ∙ append-none (replicate (length ys) freeRecord)) i;
-          last = firstLast;
-        }
-    by-test false = refl
+made-fresh ys ws m c us zs em ez ec eu =
+    cases (allowedLength (length ys))
+    (λ e.
+    let all : m ≡ length ys = em ∙ allowed-all (length ys) e in
+    let table : zs ≡ replicate (length ys) freeRecord = ez ∙ ap (λ (k : ℕ). replicate k freeRecord ++ drop k ys) all
+    ∙ ap (λ (t : List Record). replicate (length ys) freeRecord ++ t) (drop-all ys) ∙ append-none _ in
+    rw (e, rw e at ec, table, rw e at eu))
+    (λ e.
+    let none : m ≡ 0 = em ∙ other-none (length ys) e in
+    let table : zs ≡ ys = ez ∙ ap (λ (k : ℕ). replicate k freeRecord ++ drop k ys) none in
+    rw (e, rw e at ec, table, rw e at eu))

@@ -5,7 +5,7 @@ use native.Mathlib.Nat.{not-suc-le-zero, le-of-suc-le-suc}
 use native.Mathlib.Numerals.{add-one}
 use native.Mathlib.Omega.{arith}
 use mathlib.Core.Bool.{Bool, true, false, cond}
-use mathlib.Core.List.{List, [], _∷_, _++_, map}
+use mathlib.Core.List.{List, [], _∷_, _++_}
 use lib.Dec.{T as Holds, leb, leb→le}
 use borrow.Author.Tests.{le-leb}
 use lib.ListN.{length, getD, set, take, drop, replicate, length-map}
@@ -72,12 +72,12 @@ pub take-whole : (ys : List Record) → take (length ys) ys ≡ ys
 take-whole [] = refl
 take-whole (y ∷ ys) = ap (λ (zs : List Record). y ∷ zs) (take-whole ys)
 
--- a plan is carried out where its record is stored
+-- a plan is carried out where its record is stored and its last fence kept
 pub carried-out :
-    (p : Plan) (ys zs : List Record) (wall : List ℕ) → zs ≡ set ys (p .at) (p .stored)
-    → given (p .answer) zs wall ≡ carried p ys wall
+    (p : Plan) (ys zs : List Record) (us : List ℕ) → zs ≡ set ys (p .at) (p .stored) → getD us 0 0 ≡ p .last
+    → given (p .answer) zs us ≡ carried p ys
 unfolding carried
-carried-out p ys zs wall e = ap (λ (t : List Record). given (p .answer) t wall) e
+carried-out p ys zs us e l = λ i. record { answer = p .answer; table = e i; last = l i }
 
 -- ---- a table whose first i records are free
 

@@ -16,7 +16,7 @@ use requests::RECORDS_MAX;
 use requests::Record;
 use requests::WALL_WORDS;
 
-// How many records are taken by value: all, or none where there are more than 256, which is refused.
+// How many records a call takes by value or frees: all, or none where there are more than 256, which is refused.
 fn kept(n: usize) -> usize
     ensures { λ r. ⌜ r ≡ kept n ⌝ }
 {
@@ -24,11 +24,9 @@ fn kept(n: usize) -> usize
 }
 
 // Takes the first m records by value, each once, and plans what is asked.
-fn judge(t: &[Record], m: usize, wall: &mut [u16; WALL_WORDS], ask: Ask) -> Plan
+fn judge(t: &[Record], m: usize, last: u16, ask: Ask) -> Plan
     requires { ⌜ m ≡ kept (length (now t)) ⌝ }
-    ensures { λ r.
-        ⌜ carried r (now (t .entry)) (now (wall .exit))
-        ≡ calling (now (t .entry)) (getD (now (wall .entry)) 0 0) ask ⌝ }
+    ensures { λ r. ⌜ carried r (now (t .entry)) ≡ calling (now (t .entry)) last ask ⌝ }
 {
     let mut words = [0; RECORDS_MAX];
     let mut i: usize = 0;
@@ -37,7 +35,7 @@ fn judge(t: &[Record], m: usize, wall: &mut [u16; WALL_WORDS], ask: Ask) -> Plan
         words[i] = requests::word_of(r);
         i = i + 1;
     }
-    requests::plan_call(&words, t.len(), wall, ask)
+    requests::plan_call(&words, t.len(), last, ask)
 }
 
 // Stores one record, where the table has the place.
@@ -49,15 +47,17 @@ fn store(t: &mut [Record], i: usize, r: Record)
     }
 }
 
-// Does what is asked, an opening or a reply: one record of the table is stored, or none.
+// Does what is asked, an opening or a reply: one record of the table is stored, or none, and then the last fence.
 pub fn call(wall: &mut [u16; WALL_WORDS], t: &mut [Record], ask: Ask) -> Answer
     ensures { λ r.
         ⌜ given r (now (t .exit)) (now (wall .exit))
         ≡ calling (now (t .entry)) (getD (now (wall .entry)) 0 0) ask ⌝ }
 {
     let m = kept(t.len());
-    let p = judge(t, m, wall, ask);
+    let last = requests::last_of(wall);
+    let p = judge(t, m, last, ask);
     store(t, p.at, p.stored);
+    requests::keep_last(wall, last, p.last);
     p.answer
 }
 
@@ -85,7 +85,7 @@ pub fn fresh(wall: &mut [u16; WALL_WORDS], t: &mut [Record]) -> u32
         ⌜ given (numberAlone r) (now (t .exit)) (now (wall .exit))
         ≡ fresh (now (t .entry)) (getD (now (wall .entry)) 0 0) ⌝ }
 {
-    let b = requests::begin(wall, t.len());
-    clear(t, b.records);
-    b.code
+    let n = t.len();
+    clear(t, kept(n));
+    requests::begin(wall, n)
 }

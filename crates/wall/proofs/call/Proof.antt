@@ -1,8 +1,8 @@
--- `wall::call` meets its contract: a walk of its MIR, by hand, of three calls and no branch. The table is lent as `&` to
--- `judge` for a lifetime that is made for the call, the wall's state is passed on to it for good, and the table to `store`.
--- All that the proof knows of the three is that each meets its contract.
+-- `wall::call` meets its contract: a walk of its MIR, by hand, of five calls and no branch. The state is lent as `&` to
+-- `last_of` and the table to `judge`, each for a lifetime that is made for the call; then the table is passed on for good
+-- to `store`, and the state to `keep_last`. All that the proof knows of the five is that each meets its contract.
 -- Assumes nothing.
-use mathlib.Core.Path.{_≡_, refl, sym, _∙_, ap, subst}
+use mathlib.Core.Path.{_≡_, refl, sym, _∙_, ap}
 use Prim.Native.Nat.{ℕ, _<_, _^_}
 use mathlib.Core.List.{List, [], _∷_}
 use lib.Dec.{T as Holds}
@@ -19,11 +19,11 @@ use prog.Wp.{Heap, Calls, Loops, WpFn, Tables}
 use ghost.Atoms.{Atoms, sem}
 use contract.Monad.{Fun, fact}
 use contract.Running.{givenOf, tables, tablesOf}
-use types.Kit.{Given, Item, ‵, raw, _⊛_, some, later, ⋆, _$_, _∵_, !, qed, by, move, keep, drop, use0, use1, use2, use3}
+use types.Kit.{Given, Item, ‵, raw, _⊛_, some, later, ⋆, _$_, _∵_, !, qed, by, move, keep, drop, use0, use1, use2}
 use types.Kit.{rewrite, split, join, pick, fsplit, fjoin, feqL, suffices, frame, await, done, Seq, Go, runs, allocs}
 use types.Kit.{params′, atRet}
 use types.Part.{agg, whole, sub, look-in}
-use types.Run.{look, init, forget, stop, hop, fld, from, load, addr, of-opd, and-then, no-more, assigns, land, returns, enter}
+use types.Run.{look, init, store as overwrite, forget, stop, hop, fld, from, load, addr, of-opd, and-then, no-more, assigns, land, returns, enter}
 use types.Run.{alloc1, alloc0, params1, pass1, pass0, free1, free0}
 use types.Tokens.{lft-new, lft-end}
 use sound.WpLaws.{FmC, fmOf, WpFn-mono}
@@ -33,7 +33,7 @@ use denote.Laws.{Is, shows}
 use denote.Memory.{pointee}
 use denote.Plain.{Nothing, uint-makes, uint-lawful, nothing-lawful}
 use denote.Builtin.{u16, usize}
-use denote.Ref.{RefT, MutRef, ptr-vals, mut-tells}
+use denote.Ref.{RefT, MutRef, ShrRef, ptr-vals, mut-tells}
 use denote.Slice.{sliceTy, sliceVal, MutSlice, ShrSlice, Room, finally, slice-vals, mut-slice-tells}
 use denote.Signature.{plain}
 use denote.Steps.{only, owned, facts, heard, nothing}
@@ -48,7 +48,7 @@ use denote.Triple.Walked.{says, Stays, stay-none, gave-ref, gave-slice, walkOf, 
 use denote.Triple.Walked.{Walks, ends-at, walked, walk-meets}
 use denote.Exit.{yes}
 use Rattle.requests.specs.Calls.{given, calling}
-use Rattle.requests.specs.Plan.{carried}
+use Rattle.requests.specs.Plan.{carried, lastKept}
 use Rattle.requests.specs.declared.record.Record.{Record}
 use Rattle.requests.specs.declared.asking.Ask.{Ask}
 use Rattle.requests.specs.declared.planning.Answer.{Answer}
@@ -61,9 +61,20 @@ use Rattle.requests.proofs.planning.Answer as N
 use Rattle.requests.proofs.planning.Answer.Laws as N′
 use Rattle.requests.proofs.planning.Plan as P
 use Rattle.requests.proofs.planning.Plan.Laws as P′
+use Rattle.requests.proofs.Plans.{kept-last}
+use Rattle.requests.proofs.last_of as last-fn
+use Rattle.requests.proofs.last_of.Symbol as last-def
+use Rattle.requests.proofs.last_of.Symbol.{name as #requests·last-of}
+use Rattle.requests.proofs.last_of.Met as last-thm
+use Rattle.requests.proofs.keep_last as keep-last
+use Rattle.requests.proofs.keep_last.Symbol as keep-last-def
+use Rattle.requests.proofs.keep_last.Symbol.{name as #requests·keep-last}
+use Rattle.requests.proofs.keep_last.Met as keep-last-thm
 use Rattle.wall.specs.Private.{kept}
+use Rattle.wall.proofs.KeptCall.{Keep, to-keep, goes-keep, keep-said}
 use Rattle.wall.proofs.Records.{carried-out}
 use Rattle.wall.proofs.Shared.{LentShared, lends-shared, back-shared}
+use Rattle.wall.proofs.SharedRef.{RefShared, shares-ref, ref-again}
 use Rattle.wall.proofs.kept as keep-fn
 use Rattle.wall.proofs.kept.Symbol as keep-def
 use Rattle.wall.proofs.kept.Symbol.{name as #wall·kept}
@@ -105,6 +116,12 @@ stateRef = tyRef (named 0) mut (pointee (State .written))
 abbrev slice : Ty
 slice = sliceTy (tyRef (named 1) mut (pointee (R .written)))
 
+abbrev stateShared : Ty
+stateShared = tyRef erased imm (pointee (State .written))
+
+abbrev word16 : Ty
+word16 = tyInt w16
+
 abbrev recordRef : Ty
 recordRef = tyRef erased imm (pointee (R .written))
 
@@ -122,14 +139,17 @@ sliceAgain = sliceTy recordMut
 
 -- ---- the contracts that the proof cites
 module _ {M : Type 1} (𝓤 : URA M) (H : Heap 𝓤) (A : Atoms 𝓤) (mem : Memory → SProp 𝓤) (run : Routine → Fun 𝓤) where
-  abbrev Keep : Contract 𝓤
-  Keep = tripleOf 𝓤 H A keep-fn.signature (keep-fn.spec 𝓤 H A mem run)
+  abbrev Last : Contract 𝓤
+  Last = tripleOf 𝓤 H A last-fn.signature (last-fn.spec 𝓤 H A mem run)
 
   abbrev Judge : Contract 𝓤
   Judge = tripleOf 𝓤 H A judge.signature (judge.spec 𝓤 H A mem run)
 
   abbrev Store : Contract 𝓤
   Store = tripleOf 𝓤 H A store.signature (store.spec 𝓤 H A mem run)
+
+  abbrev KeepLast : Contract 𝓤
+  KeepLast = tripleOf 𝓤 H A keep-last.signature (keep-last.spec 𝓤 H A mem run)
 
 module _ {M : Type 1} (𝓤 : URA M) (H : Heap 𝓤) (A : Atoms 𝓤) (W : Given 𝓤 H A) (mem : Memory → SProp 𝓤)
     (run : Routine → Fun 𝓤) (κ₁ κ : Lft) (q₁ q : Share) (b₁ o₁ : ℕ) (γ₁ : GName) (ws : List ℕ) (b o : ℕ) (γ : GName)
@@ -146,8 +166,8 @@ module _ {M : Type 1} (𝓤 : URA M) (H : Heap 𝓤) (A : Atoms 𝓤) (W : Given
   asked-wt : Holds (hasTy K′.mir asked) × WT asked
   asked-wt = LL.lawful K.the-type K′.the-laws 𝓤 H A W .typed ask _ ga .0
 
-  abbrev x₁ : RefT (List ℕ)
-  x₁ = record { ptr = (b₁, o₁); name = γ₁; now = ws }
+  abbrev x₁ : GName → RefT (List ℕ)
+  x₁ δ = record { ptr = (b₁, o₁); name = δ; now = ws }
 
   abbrev x₂ : GName → RefT (List Record)
   x₂ δ = record { ptr = (b, o); name = δ; now = ys }
@@ -156,7 +176,7 @@ module _ {M : Type 1} (𝓤 : URA M) (H : Heap 𝓤) (A : Atoms 𝓤) (W : Given
   Arg = RefT (List ℕ) × (RefT (List Record) × (Ask × Unit {0}))
 
   abbrev x : Arg
-  x = (x₁, (x₂ γ, (ask, tt)))
+  x = (x₁ γ₁, (x₂ γ, (ask, tt)))
 
   abbrev at : Vals f.signature (κ₁, (κ, tt))
   at = (vptr b₁ o₁ ∷ [], (s ∷ [], (asked ∷ [], tt)))
@@ -164,51 +184,54 @@ module _ {M : Type 1} (𝓤 : URA M) (H : Heap 𝓤) (A : Atoms 𝓤) (W : Given
   abbrev Post : Val → SProp 𝓤
   Post = walkOf 𝓤 H A f.ended stayed (f.clauses 𝓤 H A mem run) .post (((κ₁, (κ, tt)), (q₁, (q, tt)), tt, x, at), tt)
 
-  -- ---- the three calls: what each is passed, what it asks, and what is known of its result
-  abbrev to-keep : Keep 𝓤 H A mem run .Ghost
-  to-keep = ((tt, tt, tt, (n, tt), (vint w64 n ∷ [], tt)), tt)
+  -- ---- the calls but that of `kept`: what each is passed, what it asks, and what is known of its result
+  abbrev to-last : ℕ → GName → Last 𝓤 H A mem run .Ghost
+  to-last ν δ = (((ν ∷ [], tt), (fullShare, tt), tt, (x₁ δ, tt), (vptr b₁ o₁ ∷ [], tt)), tt)
 
-  goes-keep : ent 𝓤 (emp 𝓤) (Keep 𝓤 H A mem run .pre to-keep)
-  goes-keep =
-      qed W [] ∵ owned ! usize (Is usize) (uint-makes 𝓤 H A W w64) n _ (refl, gn .0) $ nothing ! $ move ! (1 ∷ 0 ∷ []) $ join !
-      $ nothing ! $ join ! $ frame ! $ done !
+  goes-last : (ν : ℕ) (δ : GName)
+      → ent 𝓤 (sep 𝓤 (sep 𝓤 (A .lft (ν ∷ []) fullShare) (sem 𝓤 H A ftrue))
+      (sem 𝓤 H A (ShrRef (named 0) (ν ∷ []) State .own (x₁ δ) (vptr b₁ o₁ ∷ []))))
+      (Last 𝓤 H A mem run .pre (to-last ν δ))
+  goes-last ν δ =
+      qed W ((‵ (flft (ν ∷ []) fullShare) ⊛ ‵ ftrue) ∷ ‵ (ShrRef (named 0) (ν ∷ []) State .own (x₁ δ) (vptr b₁ o₁ ∷ [])) ∷ [])
+      ∵ nothing ! $ move ! (2 ∷ 0 ∷ []) $ fjoin ! $ move ! (1 ∷ 0 ∷ []) $ join ! $ frame ! $ done !
 
-  keep-said : (m : ℕ) → ent 𝓤 (ensured 𝓤 H A keep-fn.ended (keep-fn.clauses 𝓤 H A mem run) tt (n, tt) tt m) (fact 𝓤 (m ≡ kept n))
-  keep-said m = exE 𝓤 _ (λ us. snd∗ 𝓤 (sem 𝓤 H A (lasts keep-fn.ended tt (n, tt) us)) (fact 𝓤 (m ≡ kept n)))
+  last-said : (ν : ℕ) (δ : GName) (l : ℕ)
+      → ent 𝓤 (ensured 𝓤 H A last-fn.ended (last-fn.clauses 𝓤 H A mem run) (ν ∷ [], tt) (x₁ δ, tt) tt l)
+      (fact 𝓤 (l ≡ getD ws 0 0))
+  last-said ν δ l =
+      exE 𝓤 _ (λ us. snd∗ 𝓤 (sem 𝓤 H A (lasts last-fn.ended (ν ∷ [], tt) (x₁ δ, tt) us)) (fact 𝓤 (l ≡ getD ws 0 0)))
 
   abbrev JudgeArg : Type 0
-  JudgeArg = RefT (List Record) × (ℕ × (RefT (List ℕ) × (Ask × Unit {0})))
+  JudgeArg = RefT (List Record) × (ℕ × (ℕ × (Ask × Unit {0})))
 
-  abbrev judge-arg : GName → ℕ → JudgeArg
-  judge-arg δ m = (x₂ δ, (m, (x₁, (ask, tt))))
+  abbrev judge-arg : GName → ℕ → ℕ → JudgeArg
+  judge-arg δ m l = (x₂ δ, (m, (l, (ask, tt))))
 
-  abbrev to-judge : ℕ → GName → ℕ → Judge 𝓤 H A mem run .Ghost
-  to-judge ν δ m = (
+  abbrev to-judge : ℕ → GName → ℕ → ℕ → Judge 𝓤 H A mem run .Ghost
+  to-judge ν δ m l = (
     (
-      (ν ∷ [], (κ₁, tt)),
-      (fullShare, (q₁, tt)),
+      (ν ∷ [], tt),
+      (fullShare, tt),
       tt,
-      judge-arg δ m,
-      (s ∷ [], (vint w64 m ∷ [], (vptr b₁ o₁ ∷ [], (asked ∷ [], tt)))),
+      judge-arg δ m l,
+      (s ∷ [], (vint w64 m ∷ [], (vint w16 l ∷ [], (asked ∷ [], tt)))),
     ),
     tt,
   )
 
-  goes-judge : (ν : ℕ) (δ : GName) (m : ℕ) → m < 2 ^ 64 → m ≡ kept n
-      → ent 𝓤 (sep 𝓤 (sep 𝓤 (A .lft (ν ∷ []) fullShare) (sep 𝓤 (A .lft κ₁ q₁) (sem 𝓤 H A ftrue)))
-      (sep 𝓤 (sem 𝓤 H A (ShrSlice (named 0) (ν ∷ []) R .own (x₂ δ) (s ∷ [])))
-      (sem 𝓤 H A (MutRef (named 1) κ₁ State .own x₁ (vptr b₁ o₁ ∷ [])))))
-      (Judge 𝓤 H A mem run .pre (to-judge ν δ m))
-  goes-judge ν δ m gm ok =
-      qed W ((‵ (flft (ν ∷ []) fullShare) ⊛ (‵ (flft κ₁ q₁) ⊛ ‵ ftrue))
-      ∷ ‵ (ShrSlice (named 0) (ν ∷ []) R .own (x₂ δ) (s ∷ []))
-      ∷ ‵ (MutRef (named 1) κ₁ State .own x₁ (vptr b₁ o₁ ∷ [])) ∷ [])
+  goes-judge : (ν : ℕ) (δ : GName) (m l : ℕ) → m < 2 ^ 64 → l < 2 ^ 16 → m ≡ kept n
+      → ent 𝓤 (sep 𝓤 (sep 𝓤 (A .lft (ν ∷ []) fullShare) (sem 𝓤 H A ftrue))
+      (sem 𝓤 H A (ShrSlice (named 0) (ν ∷ []) R .own (x₂ δ) (s ∷ []))))
+      (Judge 𝓤 H A mem run .pre (to-judge ν δ m l))
+  goes-judge ν δ m l gm gl ok =
+      qed W ((‵ (flft (ν ∷ []) fullShare) ⊛ ‵ ftrue) ∷ ‵ (ShrSlice (named 0) (ν ∷ []) R .own (x₂ δ) (s ∷ [])) ∷ [])
       ∵ says ! ok $ frame ! $ nothing ! $ owned ! K.the-row (Is K.the-row) (LL.makes K.the-type K′.the-plain 𝓤 H A) ask _ ga
-      $ fjoin ! $ move ! (2 ∷ 0 ∷ []) $ fjoin ! $ owned ! usize (Is usize) (uint-makes 𝓤 H A W w64) m _ (refl, gm) $ fjoin !
-      $ move ! (1 ∷ 0 ∷ []) $ fjoin ! $ done !
+      $ fjoin ! $ owned ! u16 (Is u16) (uint-makes 𝓤 H A W w16) l _ (refl, gl) $ fjoin !
+      $ owned ! usize (Is usize) (uint-makes 𝓤 H A W w64) m _ (refl, gm) $ fjoin ! $ move ! (1 ∷ 0 ∷ []) $ fjoin ! $ done !
 
-  abbrev Judged : Plan → List ℕ → Type 0
-  Judged p us = carried p ys us ≡ calling ys (getD ws 0 0) ask
+  abbrev Judged : ℕ → Plan → Type 0
+  Judged l p = carried p ys ≡ calling ys l ask
 
   abbrev StoreArg : Type 0
   StoreArg = RefT (List Record) × (ℕ × (Record × Unit {0}))
@@ -230,6 +253,37 @@ module _ {M : Type 1} (𝓤 : URA M) (H : Heap 𝓤) (A : Atoms 𝓤) (W : Given
       $ owned ! usize (Is usize) (uint-makes 𝓤 H A W w64) (p .at) _ (refl, gp) $ fjoin ! $ move ! (1 ∷ 0 ∷ []) $ fjoin !
       $ move ! (1 ∷ 0 ∷ []) $ join ! $ frame ! $ done !
 
+  abbrev KeepLastArg : Type 0
+  KeepLastArg = RefT (List ℕ) × (ℕ × (ℕ × Unit {0}))
+
+  abbrev keep-last-arg : ℕ → Plan → KeepLastArg
+  keep-last-arg l p = (x₁ γ₁, (l, (p .last, tt)))
+
+  abbrev to-keep-last : ℕ → Plan → KeepLast 𝓤 H A mem run .Ghost
+  to-keep-last l p = (
+    (
+      (κ₁, tt),
+      (q₁, tt),
+      tt,
+      keep-last-arg l p,
+      (vptr b₁ o₁ ∷ [], (vint w16 l ∷ [], (vint w16 (p .last) ∷ [], tt))),
+    ),
+    tt,
+  )
+
+  goes-keep-last : (l : ℕ) (p : Plan) → l < 2 ^ 16 → p .last < 2 ^ 16
+      → ent 𝓤 (sep 𝓤 (sep 𝓤 (A .lft κ₁ q₁) (sem 𝓤 H A ftrue))
+      (sem 𝓤 H A (MutRef (named 0) κ₁ State .own (x₁ γ₁) (vptr b₁ o₁ ∷ []))))
+      (KeepLast 𝓤 H A mem run .pre (to-keep-last l p))
+  goes-keep-last l p gl gp =
+      qed W ((‵ (flft κ₁ q₁) ⊛ ‵ ftrue) ∷ ‵ (MutRef (named 0) κ₁ State .own (x₁ γ₁) (vptr b₁ o₁ ∷ [])) ∷ [])
+      ∵ nothing ! $ owned ! u16 (Is u16) (uint-makes 𝓤 H A W w16) (p .last) _ (refl, gp) $ fjoin !
+      $ owned ! u16 (Is u16) (uint-makes 𝓤 H A W w16) l _ (refl, gl) $ fjoin ! $ move ! (2 ∷ 0 ∷ []) $ fjoin !
+      $ move ! (1 ∷ 0 ∷ []) $ join ! $ frame ! $ done !
+
+  abbrev Kept : ℕ → Plan → List ℕ → Type 0
+  Kept l p us = getD us 0 0 ≡ lastKept l (p .last) (getD ws 0 0)
+
   exits : (a : Answer) (us : List ℕ) (zs : List Record) → Is N.the-row a (N′.lowered a ∷ [])
       → given a zs us ≡ calling ys (getD ws 0 0) ask → length zs ≡ n
       → ent 𝓤 (⋆ 𝓤 H A ((‵ (flft κ₁ q₁) ⊛ ‵ ftrue) ∷ (‵ (flft κ q) ⊛ ‵ ftrue) ∷ ‵ (fres γ₁ (State .coded .code us))
@@ -244,15 +298,19 @@ module _ {M : Type 1} (𝓤 : URA M) (H : Heap 𝓤) (A : Atoms 𝓤) (W : Given
       $ move ! (1 ∷ 0 ∷ []) $ done !
 
   module _ (C : Calls 𝓤 H) (Λ : Loops 𝓤 H) (fm : FmC 𝓤 H (W .laws) C)
-      (known-keep : Triple 𝓤 (C #wall·kept) (Keep 𝓤 H A mem run)) (known-judge : Triple 𝓤 (C #wall·judge) (Judge 𝓤 H A mem run))
-      (known-store : Triple 𝓤 (C #wall·store) (Store 𝓤 H A mem run)) where
+      (known-keep : Triple 𝓤 (C #wall·kept) (Keep 𝓤 H A mem run))
+      (known-last : Triple 𝓤 (C #requests·last-of) (Last 𝓤 H A mem run))
+      (known-judge : Triple 𝓤 (C #wall·judge) (Judge 𝓤 H A mem run))
+      (known-store : Triple 𝓤 (C #wall·store) (Store 𝓤 H A mem run))
+      (known-keep-last : Triple 𝓤 (C #requests·keep-last) (KeepLast 𝓤 H A mem run)) where
     -- the locals, with their types spelled out
     abbrev Locals : List Local
     Locals =
         local N′.mir valueLocal ∷ local stateRef valueLocal ∷ local slice valueLocal ∷ local K′.mir valueLocal
-        ∷ local word64 valueLocal ∷ local P′.mir valueLocal ∷ local word64 valueLocal
-        ∷ local recordRef valueLocal ∷ local sharedSlice valueLocal ∷ local stateAgain valueLocal
-        ∷ local tyUnit valueLocal ∷ local recordMut valueLocal ∷ local sliceAgain valueLocal ∷ []
+        ∷ local word64 valueLocal ∷ local word16 valueLocal ∷ local P′.mir valueLocal
+        ∷ local word64 valueLocal ∷ local stateShared valueLocal ∷ local recordRef valueLocal
+        ∷ local sharedSlice valueLocal ∷ local tyUnit valueLocal ∷ local recordMut valueLocal
+        ∷ local sliceAgain valueLocal ∷ local stateAgain valueLocal ∷ []
 
     abbrev Entry : List (Item 𝓤)
     Entry =
@@ -262,89 +320,123 @@ module _ {M : Type 1} (𝓤 : URA M) (H : Heap 𝓤) (A : Atoms 𝓤) (W : Given
     inside : Seq (Go {0}) W Entry (allocs Locals (λ E. params′ E (vptr b₁ o₁ ∷ s ∷ asked ∷ []) (runs C Λ E t-1 (atRet E Post))))
     inside =
         alloc1 ! (λ l₀. alloc1 ! (λ l₁. alloc1 ! (λ l₂. alloc1 ! (λ l₃. alloc1 ! (λ l₄. alloc1 ! (λ l₅. alloc1 ! (λ l₆.
-        alloc1 ! (λ l₇. alloc1 ! (λ l₈. alloc1 ! (λ l₉. alloc1 ! (λ l₁₀. alloc1 ! (λ l₁₁. alloc1 ! (λ l₁₂.
-        alloc0 ! $ params1 ! $ pass1 ! (init ! 22 refl (tt, tt))
-        $ pass1 ! (init ! 20 refl (tt, (tt, (record { fits = gn .0 }, tt)))) $ pass1 ! (init ! 18 refl asked-wt) $ pass0 !
-        $ assigns ! (of-opd ! (load ! (from ! (fld ! refl (stop !))) (look-in ! 20 (sub ! 1 refl (whole !))))) (from ! (stop !))
-        (init ! 12 refl (tt, record { fits = gn .0 }))
+        alloc1 ! (λ l₇. alloc1 ! (λ l₈. alloc1 ! (λ l₉. alloc1 ! (λ l₁₀. alloc1 ! (λ l₁₁. alloc1 ! (λ l₁₂. alloc1 ! (λ l₁₃.
+        alloc1 ! (λ l₁₄. alloc0 ! $ params1 ! $ pass1 ! (init ! 26 refl (tt, tt))
+        $ pass1 ! (init ! 24 refl (tt, (tt, (record { fits = gn .0 }, tt)))) $ pass1 ! (init ! 22 refl asked-wt) $ pass0 !
+        $ assigns ! (of-opd ! (load ! (from ! (fld ! refl (stop !))) (look-in ! 24 (sub ! 1 refl (whole !))))) (from ! (stop !))
+        (init ! 14 refl (tt, record { fits = gn .0 }))
         -- kept
-        $ use0 W (raw (Keep 𝓤 H A mem run .pre to-keep)) goes-keep
-        $ calls-at ! fm (Keep 𝓤 H A mem run) known-keep to-keep (and-then ! (load ! (from ! (stop !))
-        (look ! 13 refl)) (no-more !)) (λ w.
+        $ use0 W (raw (Keep 𝓤 H A mem run .pre (to-keep 𝓤 H A mem run n))) (goes-keep 𝓤 H A mem run W n (gn .0))
+        $ calls-at ! fm (Keep 𝓤 H A mem run) known-keep (to-keep 𝓤 H A mem run n) (and-then ! (load ! (from ! (stop !))
+        (look ! 15 refl)) (no-more !)) (λ w.
         use1 W (later (some (λ (m : ℕ). (‵ ftrue ⊛ ‵ (usize .own m (w ∷ [])))
         ⊛ raw (ensured 𝓤 H A keep-fn.ended (keep-fn.clauses 𝓤 H A mem run) tt (n, tt) tt m)))) (id⊢ 𝓤 _)
         $ await ! tt $ pick ! (λ m.
-        split ! $ move ! (1 ∷ []) $ use1 W (raw (fact 𝓤 (m ≡ kept n))) (keep-said m) $ heard ! (m ≡ kept n) (λ em.
+        split ! $ move ! (1 ∷ []) $ use1 W (raw (fact 𝓤 (m ≡ kept n))) (keep-said 𝓤 H A mem run n m) $ heard ! (m ≡ kept n) (λ em.
         split ! $ drop ! $ facts ! usize (Is usize) (shows 𝓤 H A usize) m (w ∷ []) (λ im.
-        land ! (from ! (stop !)) (init ! 16 refl (uint-lawful 𝓤 H A W w64 .typed m _ im .0))
-        $ rewrite ! 16 (λ (u : Val). ‵ (fat fullShare word64 l₄ 0 u)) (ap only (im .0)) refl
+        land ! (from ! (stop !)) (init ! 20 refl (uint-lawful 𝓤 H A W w64 .typed m _ im .0))
+        $ rewrite ! 20 (λ (u : Val). ‵ (fat fullShare word64 l₄ 0 u)) (ap only (im .0)) refl
+        -- last_of: the state is lent as `&`, for a lifetime ν₁ of the call
+        $ assigns ! (addr ! (from ! (hop ! (look ! 26 refl) (stop !)))) (from ! (stop !)) (init ! 12 refl (tt, tt))
+        $ move ! (31 ∷ []) $ fsplit ! $ move ! (1 ∷ []) $ fsplit ! $ move ! (33 ∷ []) $ split ! $ move ! (1 ∷ []) $ split !
+        $ lft-new ! tt (λ ν₁. move ! (6 ∷ 3 ∷ [])
+        $ use2 W (later (some (λ (δ : GName). ‵ (ShrRef (named 0) (ν₁ ∷ []) State .own (x₁ δ) (vptr b₁ o₁ ∷ []))
+        ⊛ ‵ (RefShared State κ₁ (ν₁ ∷ []) q₁ γ₁ b₁ o₁ ws))))
+        (shares-ref State κ₁ (ν₁ ∷ []) q₁ γ₁ b₁ o₁ ws 𝓤 H A W (named 0) (named 0))
+        $ await ! tt $ pick ! (λ δ₁. split ! $ nothing ! $ move ! (3 ∷ 0 ∷ []) $ join !
+        $ use2 W (raw (Last 𝓤 H A mem run .pre (to-last ν₁ δ₁))) (goes-last ν₁ δ₁)
+        $ calls-at ! fm (Last 𝓤 H A mem run) known-last (to-last ν₁ δ₁) (and-then ! (load ! (from ! (stop !))
+        (look ! 18 refl)) (no-more !)) (λ w₁.
+        use1 W (later (some (λ (l : ℕ). ((‵ (flft (ν₁ ∷ []) fullShare) ⊛ ‵ ftrue) ⊛ ‵ (u16 .own l (w₁ ∷ [])))
+        ⊛ raw (ensured 𝓤 H A last-fn.ended (last-fn.clauses 𝓤 H A mem run) (ν₁ ∷ [], tt) (x₁ δ₁, tt) tt l)))) (id⊢ 𝓤 _)
+        $ await ! tt $ pick ! (λ l.
+        split ! $ move ! (1 ∷ []) $ use1 W (raw (fact 𝓤 (l ≡ getD ws 0 0))) (last-said ν₁ δ₁ l)
+        $ heard ! (l ≡ getD ws 0 0) (λ el. split ! $ move ! (1 ∷ [])
+        $ facts ! u16 (Is u16) (shows 𝓤 H A u16) l (w₁ ∷ []) (λ il.
+        land ! (from ! (stop !)) (init ! 24 refl (uint-lawful 𝓤 H A W w16 .typed l _ il .0))
+        $ rewrite ! 24 (λ (u : Val). ‵ (fat fullShare word16 l₅ 0 u)) (ap only (il .0)) refl
+        $ split ! $ lft-end ! tt $ move ! (0 ∷ 2 ∷ [])
+        $ use2 W (later (‵ (MutRef (named 0) κ₁ State .own (x₁ γ₁) (vptr b₁ o₁ ∷ [])) ⊛ ‵ (flft κ₁ q₁)))
+        (ref-again State κ₁ (ν₁ ∷ []) q₁ γ₁ b₁ o₁ ws 𝓤 H A W (named 0) (named 0)) $ await ! tt $ split !
         -- judge: the table is lent as `&`, for a lifetime ν of the call
-        $ assigns ! (addr ! (from ! (fld ! refl (hop ! (look-in ! 20 (sub ! 0 refl (whole !))) (stop !))))) (from ! (stop !))
-        (init ! 10 refl (tt, tt))
-        $ assigns ! (agg ! (and-then ! (load ! (from ! (stop !)) (look ! 10 refl))
-        (and-then ! (load ! (from ! (fld ! refl (stop !))) (look-in ! 20 (sub ! 1 refl (whole !)))) (no-more !))))
+        $ assigns ! (addr ! (from ! (fld ! refl (hop ! (look-in ! 31 (sub ! 0 refl (whole !))) (stop !))))) (from ! (stop !))
+        (init ! 17 refl (tt, tt))
+        $ assigns ! (agg ! (and-then ! (load ! (from ! (stop !)) (look ! 17 refl))
+        (and-then ! (load ! (from ! (fld ! refl (stop !))) (look-in ! 31 (sub ! 1 refl (whole !)))) (no-more !))))
         (from ! (stop !))
-        (init ! 8 refl (tt, (tt, (record { fits = gn .0 }, tt))))
-        $ assigns ! (addr ! (from ! (hop ! (look ! 22 refl) (stop !)))) (from ! (stop !)) (init ! 6 refl (tt, tt))
-        $ move ! (27 ∷ []) $ fsplit ! $ move ! (1 ∷ []) $ fsplit ! $ move ! (29 ∷ []) $ split ! $ move ! (1 ∷ []) $ split !
-        $ lft-new ! tt (λ ν. move ! (4 ∷ 1 ∷ [])
+        (init ! 15 refl (tt, (tt, (record { fits = gn .0 }, tt))))
+        $ lft-new ! tt (λ ν. move ! (6 ∷ 4 ∷ [])
         $ use2 W (later (some (λ (δ : GName). ‵ (ShrSlice (named 0) (ν ∷ []) R .own (x₂ δ) (s ∷ []))
         ⊛ ‵ (LentShared R κ (ν ∷ []) q γ b o ys)))) (lends-shared R κ (ν ∷ []) q γ b o ys 𝓤 H A W (named 1) (named 0))
-        $ await ! tt $ pick ! (λ δ. split ! $ move ! (4 ∷ 3 ∷ []) $ join ! $ move ! (3 ∷ 0 ∷ []) $ join !
-        $ move ! (0 ∷ 1 ∷ 4 ∷ [])
-        $ use3 W (raw (Judge 𝓤 H A mem run .pre (to-judge ν δ m))) (goes-judge ν δ m (im .1) em)
-        $ calls-at ! fm (Judge 𝓤 H A mem run) known-judge (to-judge ν δ m)
-        (and-then ! (load ! (from ! (stop !)) (look ! 11 refl)) (and-then ! (load ! (from ! (stop !)) (look ! 19 refl))
-        (and-then ! (load ! (from ! (stop !)) (look ! 9 refl)) (and-then ! (load ! (from ! (stop !))
-        (look ! 21 refl)) (no-more !))))) (λ v.
-        use1 W (later (some (λ (p : Plan). ((‵ (flft (ν
-        ∷ []) fullShare) ⊛ (‵ (flft κ₁ q₁) ⊛ ‵ ftrue)) ⊛ ‵ (P.the-row .own p (v ∷ [])))
-        ⊛ raw (ensured 𝓤 H A judge.ended (judge.clauses 𝓤 H A mem run) (ν ∷ [], (κ₁, tt)) (judge-arg δ m) tt p)))) (id⊢ 𝓤 _)
+        $ await ! tt $ pick ! (λ δ. split ! $ move ! (2 ∷ 5 ∷ []) $ join !
+        $ use2 W (raw (Judge 𝓤 H A mem run .pre (to-judge ν δ m l))) (goes-judge ν δ m l (im .1) (il .1) em)
+        $ calls-at ! fm (Judge 𝓤 H A mem run) known-judge (to-judge ν δ m l)
+        (and-then ! (load ! (from ! (stop !)) (look ! 14 refl)) (and-then ! (load ! (from ! (stop !)) (look ! 26 refl))
+        (and-then ! (load ! (from ! (stop !)) (look ! 24 refl)) (and-then ! (load ! (from ! (stop !))
+        (look ! 28 refl)) (no-more !))))) (λ v.
+        use1 W (later (some (λ (p : Plan). ((‵ (flft (ν ∷ []) fullShare) ⊛ ‵ ftrue) ⊛ ‵ (P.the-row .own p (v ∷ [])))
+        ⊛ raw (ensured 𝓤 H A judge.ended (judge.clauses 𝓤 H A mem run) (ν ∷ [], tt) (judge-arg δ m l) tt p)))) (id⊢ 𝓤 _)
         $ await ! tt $ pick ! (λ p. split ! $ move ! (1 ∷ [])
-        $ use1 W (some (λ (us : Unit {0} × (Unit {0} × (List ℕ × (Unit {0} × Unit {0})))).
-        ‵ (lasts judge.ended (ν ∷ [], (κ₁, tt)) (judge-arg δ m) us) ⊛ raw (fact 𝓤 (Judged p (us .1 .1 .0))))) (id⊢ 𝓤 _)
-        $ pick ! (λ us. split ! $ move ! (1 ∷ []) $ heard ! (Judged p (us .1 .1 .0)) (λ ej. fsplit ! $ drop ! $ fsplit ! $ drop !
-        $ fsplit ! $ move ! (1 ∷ []) $ drop ! $ move ! (1 ∷ []) $ split ! $ move ! (1 ∷ [])
+        $ use1 W (some (λ (us : Unit {0} × (Unit {0} × (Unit {0} × (Unit {0} × Unit {0})))).
+        ‵ (lasts judge.ended (ν ∷ [], tt) (judge-arg δ m l) us) ⊛ raw (fact 𝓤 (Judged l p)))) (id⊢ 𝓤 _)
+        $ pick ! (λ us. split ! $ drop ! $ heard ! (Judged l p) (λ ej. split ! $ move ! (1 ∷ [])
         $ facts ! P.the-row (Is P.the-row) (shows 𝓤 H A P.the-row) p (v ∷ []) (λ ip.
-        land ! (from ! (stop !)) (init ! 18 refl (LL.lawful P.the-type P′.the-laws 𝓤 H A W .typed p _ ip .0))
-        $ rewrite ! 18 (λ (u : Val). ‵ (fat fullShare P′.mir l₅ 0 u)) (ap only (P′.lowers .val-is p (v ∷ []) ip)) refl
-        $ split ! $ lft-end ! tt $ move ! (0 ∷ 3 ∷ [])
+        land ! (from ! (stop !)) (init ! 22 refl (LL.lawful P.the-type P′.the-laws 𝓤 H A W .typed p _ ip .0))
+        $ rewrite ! 22 (λ (u : Val). ‵ (fat fullShare P′.mir l₆ 0 u)) (ap only (P′.lowers .val-is p (v ∷ []) ip)) refl
+        $ split ! $ lft-end ! tt $ move ! (0 ∷ 2 ∷ [])
         $ use2 W (later (‵ (MutSlice (named 0) κ R .own (x₂ γ) (s ∷ [])) ⊛ ‵ (flft κ q)))
         (back-shared R κ (ν ∷ []) q γ b o ys 𝓤 H A W (named 0) (named 0) gn) $ await ! tt $ split !
         -- store: the table is passed on for good
-        $ assigns ! (addr ! (from ! (fld ! refl (hop ! (look-in ! 25 (sub ! 0 refl (whole !))) (stop !))))) (from ! (stop !))
-        (init ! 7 refl (tt, tt))
-        $ assigns ! (agg ! (and-then ! (load ! (from ! (stop !)) (look ! 7 refl))
-        (and-then ! (load ! (from ! (fld ! refl (stop !))) (look-in ! 25 (sub ! 1 refl (whole !)))) (no-more !))))
+        $ assigns ! (addr ! (from ! (fld ! refl (hop ! (look-in ! 31 (sub ! 0 refl (whole !))) (stop !))))) (from ! (stop !))
+        (init ! 11 refl (tt, tt))
+        $ assigns ! (agg ! (and-then ! (load ! (from ! (stop !)) (look ! 11 refl))
+        (and-then ! (load ! (from ! (fld ! refl (stop !))) (look-in ! 31 (sub ! 1 refl (whole !)))) (no-more !))))
         (from ! (stop !))
-        (init ! 5 refl (tt, (tt, (record { fits = gn .0 }, tt))))
+        (init ! 9 refl (tt, (tt, (record { fits = gn .0 }, tt))))
         $ move ! (1 ∷ 0 ∷ [])
         $ use2 W (raw (Store 𝓤 H A mem run .pre (to-store p))) (goes-store p (at-fits p v ip) (stored-is p v ip))
         $ calls-at ! fm (Store 𝓤 H A mem run) known-store (to-store p)
-        (and-then ! (load ! (from ! (stop !)) (look ! 4 refl))
-        (and-then ! (load ! (from ! (fld ! refl (stop !))) (look-in ! 18 (sub ! 0 refl (whole !))))
-        (and-then ! (load ! (from ! (fld ! refl (stop !))) (look-in ! 18 (sub ! 1 refl (whole !)))) (no-more !)))) (λ v′.
+        (and-then ! (load ! (from ! (stop !)) (look ! 8 refl))
+        (and-then ! (load ! (from ! (fld ! refl (stop !))) (look-in ! 22 (sub ! 0 refl (whole !))))
+        (and-then ! (load ! (from ! (fld ! refl (stop !))) (look-in ! 22 (sub ! 1 refl (whole !)))) (no-more !)))) (λ v′.
         use1 W (later (some (λ (r : Unit {0}). ((‵ (flft κ q) ⊛ ‵ ftrue) ⊛ ‵ (Nothing .own r (v′ ∷ [])))
         ⊛ raw (ensured 𝓤 H A store.ended (store.clauses 𝓤 H A mem run) (κ, tt) (store-arg p) tt r)))) (id⊢ 𝓤 _)
         $ await ! tt $ pick ! (λ r. split ! $ move ! (1 ∷ [])
         $ use1 W (some (λ (zs : List Record × (Unit {0} × (Unit {0} × Unit {0}))).
         ‵ (lasts store.ended (κ, tt) (store-arg p) zs) ⊛ raw (fact 𝓤 (zs .0 ≡ set ys (p .at) (p .stored))))) (id⊢ 𝓤 _)
         $ pick ! (λ zs. split ! $ move ! (1 ∷ []) $ heard ! (zs .0 ≡ set ys (p .at) (p .stored)) (λ ez.
-        fsplit ! $ fsplit ! $ move ! (1 ∷ []) $ feqL ! (λ l. move ! (2 ∷ []) $ split ! $ move ! (1 ∷ [])
+        fsplit ! $ fsplit ! $ move ! (1 ∷ []) $ feqL ! (λ len. move ! (2 ∷ []) $ split ! $ move ! (1 ∷ [])
         $ facts ! Nothing (Is Nothing) (shows 𝓤 H A Nothing) r (v′ ∷ []) (λ iv.
-        land ! (from ! (stop !)) (init ! 10 refl (nothing-lawful 𝓤 H A W .typed r _ iv .0))
-        $ assigns ! (of-opd ! (load ! (from ! (fld ! refl (stop !))) (look-in ! 20 (sub ! 2 refl (whole !))))) (from ! (stop !))
-        (init ! 30 refl (LL.lawful N.the-type N′.the-laws 𝓤 H A W .typed (p .answer) _ (answer-is p v ip) .0))
-        $ returns ! (look ! 30 refl) $ forget ! 6 refl $ forget ! 8 refl $ forget ! 10 refl $ forget ! 12 refl
-        $ forget ! 14 refl $ forget ! 16 refl $ forget ! 18 refl $ forget ! 20 refl $ forget ! 22 refl
-        $ forget ! 24 refl $ forget ! 26 refl $ forget ! 28 refl $ forget ! 30 refl $ move ! (30 ∷ 31 ∷ []) $ free1 !
-        $ move ! (28 ∷ 29 ∷ []) $ free1 ! $ move ! (26 ∷ 27 ∷ []) $ free1 ! $ move ! (24 ∷ 25 ∷ []) $ free1 !
-        $ move ! (22 ∷ 23 ∷ []) $ free1 ! $ move ! (20 ∷ 21 ∷ []) $ free1 ! $ move ! (18 ∷ 19 ∷ []) $ free1 !
-        $ move ! (16 ∷ 17 ∷ []) $ free1 ! $ move ! (14 ∷ 15 ∷ []) $ free1 ! $ move ! (12 ∷ 13 ∷ []) $ free1 !
-        $ move ! (10 ∷ 11 ∷ []) $ free1 ! $ move ! (8 ∷ 9 ∷ []) $ free1 ! $ move ! (6 ∷ 7 ∷ []) $ free1 ! $ free0 !
-        $ keep ! (3 ∷ 0 ∷ 4 ∷ 1 ∷ 5 ∷ [])
-        $ by ! (exits (p .answer) (us .1 .1 .0) (zs .0) (answer-is p v ip) (carried-out p ys (zs .0)
-        (us .1 .1 .0) ez ∙ ej) l)))))))))))))))))))))))))))))))
+        land ! (from ! (stop !)) (init ! 14 refl (nothing-lawful 𝓤 H A W .typed r _ iv .0))
+        -- keep_last: the state is passed on for good
+        $ assigns ! (addr ! (from ! (hop ! (look ! 34 refl) (stop !)))) (from ! (stop !)) (init ! 8 refl (tt, tt))
+        $ move ! (5 ∷ 6 ∷ []) $ join ! $ move ! (0 ∷ 5 ∷ [])
+        $ use2 W (raw (KeepLast 𝓤 H A mem run .pre (to-keep-last l p))) (goes-keep-last l p (il .1) (last-fits p v ip))
+        $ calls-at ! fm (KeepLast 𝓤 H A mem run) known-keep-last (to-keep-last l p)
+        (and-then ! (load ! (from ! (stop !)) (look ! 6 refl)) (and-then ! (load ! (from ! (stop !)) (look ! 24 refl))
+        (and-then ! (load ! (from ! (fld ! refl (stop !))) (look-in ! 22 (sub ! 3 refl (whole !)))) (no-more !)))) (λ v″.
+        use1 W (later (some (λ (r′ : Unit {0}). ((‵ (flft κ₁ q₁) ⊛ ‵ ftrue) ⊛ ‵ (Nothing .own r′ (v″ ∷ [])))
+        ⊛ raw (ensured 𝓤 H A keep-last.ended (keep-last.clauses 𝓤 H A mem run) (κ₁, tt) (keep-last-arg l p) tt r′)))) (id⊢ 𝓤 _)
+        $ await ! tt $ pick ! (λ r′. split ! $ move ! (1 ∷ [])
+        $ use1 W (some (λ (us′ : List ℕ × (Unit {0} × (Unit {0} × Unit {0}))).
+        ‵ (lasts keep-last.ended (κ₁, tt) (keep-last-arg l p) us′) ⊛ raw (fact 𝓤 (Kept l p (us′ .0))))) (id⊢ 𝓤 _)
+        $ pick ! (λ us′. split ! $ move ! (1 ∷ []) $ heard ! (Kept l p (us′ .0)) (λ ek.
+        fsplit ! $ move ! (2 ∷ []) $ split ! $ move ! (1 ∷ [])
+        $ facts ! Nothing (Is Nothing) (shows 𝓤 H A Nothing) r′ (v″ ∷ []) (λ iv′.
+        land ! (from ! (stop !)) (overwrite ! 14 refl (nothing-lawful 𝓤 H A W .typed r′ _ iv′ .0))
+        $ assigns ! (of-opd ! (load ! (from ! (fld ! refl (stop !))) (look-in ! 24 (sub ! 2 refl (whole !))))) (from ! (stop !))
+        (init ! 36 refl (LL.lawful N.the-type N′.the-laws 𝓤 H A W .typed (p .answer) _ (answer-is p v ip) .0))
+        $ returns ! (look ! 36 refl) $ forget ! 8 refl $ forget ! 10 refl $ forget ! 12 refl $ forget ! 14 refl
+        $ forget ! 16 refl $ forget ! 18 refl $ forget ! 20 refl $ forget ! 22 refl $ forget ! 24 refl $ forget ! 26 refl
+        $ forget ! 28 refl $ forget ! 30 refl $ forget ! 32 refl $ forget ! 34 refl $ forget ! 36 refl
+        $ move ! (36 ∷ 37 ∷ []) $ free1 ! $ move ! (34 ∷ 35 ∷ []) $ free1 ! $ move ! (32 ∷ 33 ∷ []) $ free1 !
+        $ move ! (30 ∷ 31 ∷ []) $ free1 ! $ move ! (28 ∷ 29 ∷ []) $ free1 ! $ move ! (26 ∷ 27 ∷ []) $ free1 !
+        $ move ! (24 ∷ 25 ∷ []) $ free1 ! $ move ! (22 ∷ 23 ∷ []) $ free1 ! $ move ! (20 ∷ 21 ∷ []) $ free1 !
+        $ move ! (18 ∷ 19 ∷ []) $ free1 ! $ move ! (16 ∷ 17 ∷ []) $ free1 ! $ move ! (14 ∷ 15 ∷ []) $ free1 !
+        $ move ! (12 ∷ 13 ∷ []) $ free1 ! $ move ! (10 ∷ 11 ∷ []) $ free1 ! $ move ! (8 ∷ 9 ∷ []) $ free1 ! $ free0 !
+        $ keep ! (0 ∷ 3 ∷ 1 ∷ 4 ∷ 7 ∷ [])
+        $ by ! (exits (p .answer) (us′ .0) (zs .0) (answer-is p v ip)
+        (does l p (zs .0) (us′ .0) el ez ek ej) len))))))))))))))))))))))))))))))))))))))))))))
       where
         at-fits : (p : Plan) (v : Val) → Is P.the-row p (v ∷ []) → p .at < 2 ^ 64
         at-fits p v ip = LL.owed P.the-type P′.the-laws p (v ∷ []) ip .0 .1
@@ -355,6 +447,15 @@ module _ {M : Type 1} (𝓤 : URA M) (H : Heap 𝓤) (A : Atoms 𝓤) (W : Given
         answer-is : (p : Plan) (v : Val) → Is P.the-row p (v ∷ []) → Is N.the-row (p .answer) (N′.lowered (p .answer) ∷ [])
         answer-is p v ip = LL.owed P.the-type P′.the-laws p (v ∷ []) ip .1 .1 .0
 
+        last-fits : (p : Plan) (v : Val) → Is P.the-row p (v ∷ []) → p .last < 2 ^ 16
+        last-fits p v ip = LL.owed P.the-type P′.the-laws p (v ∷ []) ip .1 .1 .1 .0 .1
+
+        does : (l : ℕ) (p : Plan) (zs : List Record) (us : List ℕ) → l ≡ getD ws 0 0 → zs ≡ set ys (p .at) (p .stored)
+            → Kept l p us → Judged l p → given (p .answer) zs us ≡ calling ys (getD ws 0 0) ask
+        does l p zs us el ez ek ej =
+            carried-out p ys zs us ez (ek ∙ ap (lastKept l (p .last)) (sym el) ∙ kept-last l (p .last))
+            ∙ ej ∙ ap (λ (k : ℕ). calling ys k ask) el
+
     walk : ent 𝓤 (onEntry 𝓤 H A f.signature (κ₁, (κ, tt)) (q₁, (q, tt)) x at)
         (WpFn 𝓤 H C Λ code.function (vptr b₁ o₁ ∷ s ∷ asked ∷ []) Post)
     walk = qed W Entry ∵ enter ! C Λ code.function (vptr b₁ o₁ ∷ s ∷ asked ∷ []) _ $ inside
@@ -362,28 +463,30 @@ module _ {M : Type 1} (𝓤 : URA M) (H : Heap 𝓤) (A : Atoms 𝓤) (W : Given
 module _ {M : Type 1} (𝓤 : URA M) (H : Heap 𝓤) (A : Atoms 𝓤) (W : Given 𝓤 H A) (mem : Memory
     → SProp 𝓤) (run : Routine → Fun 𝓤) where
   walks : (C : Calls 𝓤 H) (Λ : Loops 𝓤 H) → FmC 𝓤 H (W .laws) C → Triple 𝓤 (C #wall·kept) (Keep 𝓤 H A mem run)
-      → Triple 𝓤 (C #wall·judge) (Judge 𝓤 H A mem run) → Triple 𝓤 (C #wall·store) (Store 𝓤 H A mem run)
+      → Triple 𝓤 (C #requests·last-of) (Last 𝓤 H A mem run) → Triple 𝓤 (C #wall·judge) (Judge 𝓤 H A mem run)
+      → Triple 𝓤 (C #wall·store) (Store 𝓤 H A mem run) → Triple 𝓤 (C #requests·keep-last) (KeepLast 𝓤 H A mem run)
       → Walks 𝓤 H A f.ended stayed (WpFn 𝓤 H C Λ code.function) (f.clauses 𝓤 H A mem run)
-  walks C Λ fm k₁ k₂ k₃ =
+  walks C Λ fm k₁ k₂ k₃ k₄ k₅ =
       walked 𝓤 H A f.ended stayed (f.clauses 𝓤 H A mem run) (WpFn 𝓤 H C Λ code.function)
       (λ κs. (ptr-vals, (slice-vals, (LL.vals K.the-type K′.the-laws, tt))))
       (λ κs. (mut-tells (named 0) (κs .0) State, (mut-slice-tells (named 1) (κs .1 .0) R, (LL.tells K.the-type K′.the-laws, tt))))
       (λ κs qs bounds a g are. via 𝓤 _ (fst∗ 𝓤 _ (emp 𝓤))
       (walk 𝓤 H A W mem run (κs .0) (κs .1 .0) (qs .0) (qs .1 .0) (a .0 .ptr .0) (a .0 .ptr .1) (a .0 .name) (a .0 .now)
       (a .1 .0 .ptr .0) (a .1 .0 .ptr .1) (a .1 .0 .name) (a .1 .0 .now) (a .1 .1 .0) (are .1 .0 .0 .1) (are .1 .1 .0)
-      C Λ fm k₁ k₂ k₃))
+      C Λ fm k₁ k₂ k₃ k₄ k₅))
 
 meets : {M : Type 1} (𝓤 : URA M) (H : Heap 𝓤) (A : Atoms 𝓤) (W : Given 𝓤 H A) (mem : Memory → SProp 𝓤) (run : Routine → Fun 𝓤)
-    (𝓣 : Tables 𝓤 H) → Triple 𝓤 (𝓣 .C #wall·kept) (Keep 𝓤 H A mem run) → Triple 𝓤 (𝓣 .C #wall·judge) (Judge 𝓤 H A mem run)
-    → Triple 𝓤 (𝓣 .C #wall·store) (Store 𝓤 H A mem run)
+    (𝓣 : Tables 𝓤 H) → Triple 𝓤 (𝓣 .C #wall·kept) (Keep 𝓤 H A mem run)
+    → Triple 𝓤 (𝓣 .C #requests·last-of) (Last 𝓤 H A mem run) → Triple 𝓤 (𝓣 .C #wall·judge) (Judge 𝓤 H A mem run)
+    → Triple 𝓤 (𝓣 .C #wall·store) (Store 𝓤 H A mem run) → Triple 𝓤 (𝓣 .C #requests·keep-last) (KeepLast 𝓤 H A mem run)
     → Meets 𝓤 H A f.signature (WpFn 𝓤 H (𝓣 .C) (𝓣 .Λ) code.function) (f.spec 𝓤 H A mem run)
-meets 𝓤 H A W mem run 𝓣 k₁ k₂ k₃ =
+meets 𝓤 H A W mem run 𝓣 k₁ k₂ k₃ k₄ k₅ =
     walk-meets 𝓤 H A f.ended stayed W (
       goes-gave-ref 𝓤 H A W 2 0 tt (plain (λ _. State)),
       (goes-gave-slice 𝓤 H A W 2 1 tt (plain (λ _. R)), (goes-none 𝓤 H A W 2 (λ _. K.the-row) yes (λ κs x f. refl), tt)),
     )
     (f.clauses 𝓤 H A mem run) (WpFn 𝓤 H (𝓣 .C) (𝓣 .Λ) code.function) (WpFn-mono 𝓤 H (W .laws) 𝓣 code.function)
-    (walks 𝓤 H A W mem run (𝓣 .C) (𝓣 .Λ) (fmOf 𝓤 H (W .laws) 𝓣) k₁ k₂ k₃)
+    (walks 𝓤 H A W mem run (𝓣 .C) (𝓣 .Λ) (fmOf 𝓤 H (W .laws) 𝓣) k₁ k₂ k₃ k₄ k₅)
 
 pub call-spec : {M : Type 1} → stated.statement M
 unfolding code.routine tablesOf
@@ -393,7 +496,11 @@ call-spec 𝓤 H 𝓜 𝓖 𝓡 =
     (meets 𝓤 H (𝓖 .A) (givenOf 𝓤 H 𝓜 𝓖) (𝓜 .mem) (𝓡 .run) (tablesOf 𝓤 H 𝓜 (tables 𝓤 H 𝓜 𝓡 code.env))
     (cited 𝓤 H (Keep 𝓤 H (𝓖 .A) (𝓜 .mem) (𝓡 .run)) 𝓜 𝓡 code.env #wall·kept keep-def.routine code.calls-wall·kept
     (keep-thm.met 𝓤 H 𝓜 𝓖 𝓡))
+    (cited 𝓤 H (Last 𝓤 H (𝓖 .A) (𝓜 .mem) (𝓡 .run)) 𝓜 𝓡 code.env #requests·last-of last-def.routine
+    code.calls-requests·last-of (last-thm.met 𝓤 H 𝓜 𝓖 𝓡))
     (cited 𝓤 H (Judge 𝓤 H (𝓖 .A) (𝓜 .mem) (𝓡 .run)) 𝓜 𝓡 code.env #wall·judge judge-def.routine code.calls-wall·judge
     (judge-thm.met 𝓤 H 𝓜 𝓖 𝓡))
     (cited 𝓤 H (Store 𝓤 H (𝓖 .A) (𝓜 .mem) (𝓡 .run)) 𝓜 𝓡 code.env #wall·store store-def.routine code.calls-wall·store
-    (store-thm.met 𝓤 H 𝓜 𝓖 𝓡)))
+    (store-thm.met 𝓤 H 𝓜 𝓖 𝓡))
+    (cited 𝓤 H (KeepLast 𝓤 H (𝓖 .A) (𝓜 .mem) (𝓡 .run)) 𝓜 𝓡 code.env #requests·keep-last keep-last-def.routine
+    code.calls-requests·keep-last (keep-last-thm.met 𝓤 H 𝓜 𝓖 𝓡)))

@@ -1,5 +1,4 @@
--- `planning::plan_call` meets its contract: the words that are judged are the first n, and the state has one word.
--- Assumes nothing.
+-- `planning::plan_call` meets its contract: the words that are judged are the first n. Assumes nothing.
 use Prim.Native.Nat.{ℕ, _-_}
 use mathlib.Core.Path.{_≡_, sym, _∙_}
 use mathlib.Core.Bool.{true, false}
@@ -13,8 +12,7 @@ use borrow.Author.Tests.{not-true, not-false}
 use Rattle.requests.specs.Words.{records}
 use Rattle.requests.specs.Table.{fenceTwice, allowedLength}
 use Rattle.requests.proofs.Walks.{take-records}
-use Rattle.requests.proofs.Plans.{allowed-most, plan-unfit, last-unfit, plan-twice, last-twice}
-use Rattle.requests.proofs.Plans.{plan-opens, last-opens, plan-replies, last-replies}
+use Rattle.requests.proofs.Plans.{allowed-most, plan-unfit, plan-twice, plan-opens, plan-replies}
 use Rattle.requests.proofs.planning.plan_call.Statement.{statement}
 use Rattle.requests.proofs.planning.plan_call.Tie as tie
 
@@ -25,18 +23,18 @@ lent n words = rw (sub-zero, take-records)
 returns : tie.Need-returns
 returns c =
     let e = sym (c .before .before .allowed .ensures) ∙ not-true _ (c .before .if1 .taken) in
-    (c .refuse .ensures ∙ sym (plan-unfit _ _ _ _ e), sym (last-unfit _ _ _ _ e))
+    c .refuse .ensures ∙ sym (plan-unfit _ _ _ _ e)
 
 returns-2 : tie.Need-returns-2
 returns-2 c =
     let q = c .before .before in
     let e = sym (rw lent at (q .fence-twice .ensures .0)) ∙ c .before .if2 .taken in
-    (c .refuse2 .ensures ∙ sym (plan-twice _ _ _ _ e), sym (last-twice _ _ _ _ e))
+    c .refuse2 .ensures ∙ sym (plan-twice _ _ _ _ e)
 
 plan-open-requires : tie.Need-plan-open-requires
 plan-open-requires c κs =
-    let q = c .before .before .before in
-    (q .before .fence-twice .ensures .1 (q .if2 .left), c .plan-open-arg .given .0 .1)
+    let q = c .before .before in
+    q .before .fence-twice .ensures .1 (q .if2 .left)
 
 is-allowed : (q : tie.Else1) → allowedLength (q .before .before .args .n) ≡ true
 is-allowed q = sym (q .before .allowed .ensures) ∙ not-false _ (q .if1 .left)
@@ -56,17 +54,15 @@ once q = sym (rw lent at (q .before .fence-twice .ensures .0)) ∙ q .if2 .left
 
 returns-3 : tie.Need-returns-3
 returns-3 c =
-    let q = c .before .before .before .before in
-    let o = c .before .before .before .if3 .taken in
-    let e = rw lent at (c .plan-open .ensures) in
-    (e .0 ∙ sym (plan-opens _ _ _ _ (fit q) (once q) o), e .1 ∙ sym (last-opens _ _ _ _ (fit q) (once q) o))
+    let q = c .before .before .before in
+    let o = c .before .before .if3 .taken in
+    rw lent at (c .plan-open .ensures) ∙ sym (plan-opens _ _ _ _ (fit q) (once q) o)
 
 returns-4 : tie.Need-returns-4
 returns-4 c =
     let q = c .before .before in
     let o = c .before .if3 .left in
-    let e = rw lent at (c .plan-reply .ensures) in
-    (e ∙ sym (plan-replies _ _ _ _ (fit q) (once q) o), sym (last-replies _ _ _ _ (fit q) (once q) o))
+    rw lent at (c .plan-reply .ensures) ∙ sym (plan-replies _ _ _ _ (fit q) (once q) o)
 
 -- as many words are there
 part-table-end : tie.Need-part-table-end

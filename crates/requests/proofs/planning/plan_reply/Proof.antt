@@ -16,7 +16,7 @@ use Rattle.requests.proofs.planning.plan_reply.Tie as tie
 returns : tie.Need-returns
 returns c =
     let n = length-map (now (c .before .before .before .args .words)) recordOf in
-    c .refuse .ensures ∙ sym (reply-refused _ _ _ n (c .before .if1 .taken))
+    c .refuse .ensures ∙ sym (reply-refused _ _ _ _ n (c .before .if1 .taken))
 
 returns-2 : tie.Need-returns-2
 returns-2 c =
@@ -27,14 +27,14 @@ returns-2 c =
     let n = length-map (now (a .words)) recordOf in
     let end : length t ≡ q .place-of .result = omega (arith, c .before .if2 .taken) in
     let closed = end-closed (a .fence) t (omega arith) in
-    c .refuse2 .ensures ∙ sym (reply-closed t _ _ end (q .before .if1 .left) closed)
+    c .refuse2 .ensures ∙ sym (reply-closed t _ _ _ end (q .before .if1 .left) closed)
 
 returns-3 : tie.Need-returns-3
 returns-3 c =
     let q = c .before .before in
     let k = sym (q .is-reply .ensures) ∙ not-true _ (c .before .if3 .taken) in
     let n = length-map (now (q .before .before .before .before .before .args .words)) recordOf in
-    c .refuse3 .ensures ∙ sym (reply-other _ _ _ n (q .before .before .before .if1 .left) k)
+    c .refuse3 .ensures ∙ sym (reply-other _ _ _ _ n (q .before .before .before .if1 .left) k)
 
 -- past the test of its place the fence is open
 within : (c : tie.Else2) → c .before .place-of .result < length (now (c .before .before .before .before .args .words))
@@ -61,7 +61,7 @@ returns-4 c =
     let n = length-map (now (a .words)) recordOf in
     let o = within-open (a .fence) t (omega arith) in
     let k = sym (s .before .is-reply .ensures) ∙ not-false _ (s .if3 .left) in
-    let there = reply-there t _ _ n (q .before .before .if1 .left) o k in
+    let there = reply-there t (a .last) _ _ n (q .before .before .if1 .left) o k in
     c .answer-at .ensures ∙ rw (there, record-at, c .before .record-of .ensures, at)
 
 pub plan-reply-spec : {M : Type 1} → statement M

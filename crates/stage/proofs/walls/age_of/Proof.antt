@@ -2,7 +2,7 @@
 -- sign to be changed.
 use mathlib.Core.Path.{_≡_, refl, sym, _∙_, ap, subst}
 use mathlib.Core.Bool.{Bool, true, false, cond, true≢false}
-use Prim.Native.Nat.{ℕ, suc, _+_, _-_, _%_, _<_, _≤_}
+use Prim.Native.Nat.{ℕ, suc, _+_, _-_, _%_, _<_}
 use native.Mathlib.Omega.{arith}
 use lib.Dec.{T, ltb}
 use lib.IntN.{ℤ, pos, negsuc, natAbs, _-ℤ_}
@@ -14,7 +14,6 @@ use borrow.Author.Needs.{needs}
 use borrow.Author.Tests.{ltb-true, ltb-false}
 use Rattle.requests.specs.Fence.{signed, age}
 use Rattle.stage.specs.Walls.{asRead}
-use Rattle.stage.specs.declared.walls.Aged.{Aged}
 use Rattle.stage.proofs.walls.age_of.Statement.{statement}
 use Rattle.stage.proofs.walls.age_of.Tie as tie
 
