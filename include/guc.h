@@ -382,7 +382,7 @@ GUC_ANSWER struct guc_wall_answer guc_wall_open(struct guc_wall *wall, struct gu
  * its count, which stops at 65,535, and leaves it open. The origin is not asked.
  * Answers 0 with the kind, the request's action and its count, or 35, 4 (malformed) or 27 (no open
  * request has the fence, or the message is a request, an event or a fast request).
- * Changes that record on 0; wall is not touched. */
+ * Changes that record on 0; wall stays. */
 GUC_ANSWER struct guc_wall_answer guc_wall_reply(struct guc_wall *wall, struct guc_record *table,
     size_t records, const uint32_t *msg, size_t msg_len);
 
