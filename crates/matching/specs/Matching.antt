@@ -136,15 +136,15 @@ pub record FromFresh (w : Wall) (list : List Call) : Type 0 where
 
 -- ---- all of it
 
-abbrev pub begun : List Record → ℕ → Wall
-begun t last = left (fresh t last)
+abbrev pub madeFresh : List Record → ℕ → Wall
+madeFresh t last = left (fresh t last)
 
 -- a fresh table is fresh whatever it was: its call answers 0, and the wall is the plain map with nothing in it
 pub record FreshWall (t : List Record) (last : ℕ) (list : List Call) : Type 0 where
   pub begins : fresh t last .answer .code ≡ 0
-  pub as-map : AsMap (begun t last) (freshPlain (length t)) list
-  pub follows : Follows (end (begun t last) list)
-  pub from-fresh : FromFresh (begun t last) list
+  pub as-map : AsMap (madeFresh t last) (freshPlain (length t)) list
+  pub follows : Follows (end (madeFresh t last) list)
+  pub from-fresh : FromFresh (madeFresh t last) list
 
 pub record WallIsMap : Type 0 where
   -- from any table that is taken, after every list
