@@ -1,7 +1,9 @@
+pub mod CallPassed
 pub mod Cells
 pub mod Freed
 pub mod KeptCall
 pub mod Records
 pub mod Shared
 pub mod SharedRef
+pub mod Types
 pub mod Words

@@ -27,7 +27,7 @@ use types.Run.{look, init, store-raw, forget, stop, hop, fld, from, load, lit, u
 use types.Run.{assigns-last, first, skips, branches, exec, returns, enter, alloc1, alloc0, params1, pass1, pass0}
 use types.Run.{free1, free0}
 use sound.WpLaws.{WpFn-mono}
-use denote.RattleType.{RattleType, owns}
+use denote.RattleType.{owns}
 use denote.Memory.{pointee}
 use denote.Shadow.{pureI}
 use denote.Laws.{Is, shows}
@@ -50,13 +50,11 @@ use Rattle.requests.specs.declared.record.Record.{Record}
 use Rattle.wall.proofs.Records.{set-past}
 use Rattle.requests.proofs.record.Record as T
 use Rattle.requests.proofs.record.Record.Laws as T′
+use Rattle.wall.proofs.Types.{R}
 use Rattle.wall.proofs.store.Key.{name as #wall·store}
 use Rattle.wall.proofs.store as f
 use Rattle.wall.proofs.store.Statement as stated
 use Rattle.wall.proofs.store.Code as code
-
-abbrev R : RattleType
-R = T.the-row
 
 abbrev stayed : Stays (f.ended .signature .params) (f.ended .kept)
 stayed = (stay-slice (0 ∷ []) tt (plain (λ _. R)), (stay-none (λ _. usize) yes, (stay-none (λ _. R) yes, tt)))

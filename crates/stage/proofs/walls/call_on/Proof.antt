@@ -70,9 +70,9 @@ use Rattle.stage.proofs.walls.call_on as f
 use Rattle.stage.proofs.walls.call_on.Statement as stated
 use Rattle.stage.proofs.walls.call_on.Code as code
 use Rattle.stage.proofs.walls.call_on.Code.Mir.{t-1}
-use Rattle.stage.proofs.Lent.{R, Table, State, tableArr, stateArr, stateRef, tableRef, slice, Calling}
-use Rattle.stage.proofs.Lent.{asked-wt, table-wt, state-wt, long}
-use Rattle.stage.proofs.Lent.{room, lentTable, lentState, s, call-arg, After, to-call, goes-call}
+use Rattle.wall.proofs.CallPassed.{Called, Calling, lentState, lentTable, tableVal, call-arg, to-call, goes-call}
+use Rattle.wall.proofs.Types.{R, State, stateAgain, sliceAgain}
+use Rattle.stage.proofs.Lent.{Table, tableArr, stateArr, tableRef, asked-wt, table-wt, state-wt, long, room}
 use Rattle.stage.proofs.Lent.{wall, called, calledVal, is-wall, is-called}
 
 abbrev stayed : Stays (f.ended .signature .params) (f.ended .kept)
@@ -96,8 +96,12 @@ module _ {M : Type 1} (𝓤 : URA M) (H : Heap 𝓤) (A : Atoms 𝓤) (W : Given
   abbrev Post : Val → SProp 𝓤
   Post = walkOf 𝓤 H A f.ended stayed (f.clauses 𝓤 H A mem run) .post ((tt, tt, tt, arg, at), tt)
 
+  -- the call, at lifetimes ν of the table and ν′ of the state
+  abbrev to : ℕ → ℕ → GName → ℕ → ℕ → GName → Calling 𝓤 H A mem run .Ghost
+  to ν l δ ν′ l′ δ′ = to-call l′ 0 δ′ ws l 0 δ ys 𝓤 H A mem run (ν′ ∷ []) (ν ∷ []) fullShare fullShare ask
+
   exits : (r : Answer) (v : Val) (zs : List Record) (tu : Val) (us : List ℕ) (su : Val) → Is N.the-row r (v ∷ [])
-      → Is Table zs (tu ∷ []) → Is State us (su ∷ []) → After ys ws ask r us zs
+      → Is Table zs (tu ∷ []) → Is State us (su ∷ []) → Called ws ys ask r us zs
       → ent 𝓤 (sem 𝓤 H A (owns (Table ∷ State ∷ K.the-row ∷ []) arg at)) (Post (calledVal v tu su))
   exits r v zs tu us su ir it is e =
       qed W (‵ (owns (Table ∷ State ∷ K.the-row ∷ []) arg at) ∷ [])
@@ -113,8 +117,8 @@ module _ {M : Type 1} (𝓤 : URA M) (H : Heap 𝓤) (A : Atoms 𝓤) (W : Given
     Locals =
         local D′.mir valueLocal ∷ local tableArr valueLocal ∷ local stateArr valueLocal
         ∷ local K′.mir valueLocal ∷ local tableArr memorySlot ∷ local stateArr memorySlot
-        ∷ local N′.mir valueLocal ∷ local stateRef valueLocal ∷ local tableRef valueLocal
-        ∷ local slice valueLocal ∷ local tableArr valueLocal ∷ local stateArr valueLocal ∷ local Q′.mir valueLocal ∷ []
+        ∷ local N′.mir valueLocal ∷ local stateAgain valueLocal ∷ local tableRef valueLocal
+        ∷ local sliceAgain valueLocal ∷ local tableArr valueLocal ∷ local stateArr valueLocal ∷ local Q′.mir valueLocal ∷ []
 
     abbrev Entry : List (Item 𝓤)
     Entry = ‵ ftrue ∷ ‵ (owns (Table ∷ State ∷ K.the-row ∷ []) arg at) ∷ []
@@ -132,7 +136,7 @@ module _ {M : Type 1} (𝓤 : URA M) (H : Heap 𝓤) (A : Atoms 𝓤) (W : Given
         $ assigns ! (agg ! (and-then ! (load ! (from ! (stop !)) (look ! 8 refl)) (and-then ! (lit ! tt)
         (no-more !)))) (from ! (stop !))
         (init ! 6 refl (tt, (tt, (record { fits = lit< tt }, tt))))
-        $ rewrite ! 6 (λ (k : ℕ). ‵ (fat fullShare slice l₉ 0 (sliceVal (l₄, 0) k))) (sym (long ys tv iy)) refl
+        $ rewrite ! 6 (λ (k : ℕ). ‵ (fat fullShare sliceAgain l₉ 0 (sliceVal (l₄, 0) k))) (sym (long ys tv iy)) refl
         -- the table is lent, for a lifetime ν of the call, and the state for ν′
         $ move ! (16 ∷ []) $ use1 W (‵ (partAt Table fullShare ys l₄ 0))
         (array.cell-part R 6 𝓤 H A W (LL.lawful T.the-type T′.the-laws 𝓤 H A W)
@@ -140,18 +144,18 @@ module _ {M : Type 1} (𝓤 : URA M) (H : Heap 𝓤) (A : Atoms 𝓤) (W : Given
         $ use1 W (‵ (row R fullShare ys l₄ 0))
         (array.part-row R 6 𝓤 H A W (LL.lawful T.the-type T′.the-laws 𝓤 H A W) (LL.makes T.the-type T′.the-plain 𝓤 H A) tt ys l₄)
         $ use1 W (‵ (cells (in-memory R) ys l₄ 0)) (whole-in 𝓤 H A W R ys l₄ 0) $ lft-new ! tt (λ ν. move ! (1 ∷ [])
-        $ use1 W (later (some (λ (δ : GName). ‵ (MutSlice (named 1) (ν ∷ []) R .own (lentTable ys ws ask l₄ δ) (s ys ws ask l₄ ∷ []))
+        $ use1 W (later (some (λ (δ : GName). ‵ (MutSlice (named 1) (ν ∷ []) R .own (lentTable l₄ 0 δ ys) (tableVal l₄ 0 ys ∷ []))
         ⊛ ‵ (flent (ν ∷ []) (Held R (length ys) l₄ 0 δ))))) (lends-slice 𝓤 H A W R (named 1) (ν ∷ []) ys l₄ 0 (room ys tv iy))
         $ await ! tt $ pick ! (λ δ. split ! $ move ! (17 ∷ []) $ use1 W (‵ (partAt State fullShare ws l₅ 0))
         (array.cell-part u16 1 𝓤 H A W (uint-lawful 𝓤 H A W w16) (uint-makes 𝓤 H A W w16) ws sv l₅ iw)
         $ lft-new ! tt (λ ν′. move ! (1 ∷ [])
-        $ use1 W (later (some (λ (δ′ : GName). ‵ (MutRef (named 0) (ν′ ∷ []) State .own (lentState ys ws ask l₅ δ′) (vptr l₅ 0 ∷ []))
+        $ use1 W (later (some (λ (δ′ : GName). ‵ (MutRef (named 0) (ν′ ∷ []) State .own (lentState l₅ 0 δ′ ws) (vptr l₅ 0 ∷ []))
         ⊛ ‵ (flent (ν′ ∷ []) (Body (in-memory State) l₅ 0 δ′))))) (lends-ref 𝓤 H A W State (named 0) (ν′ ∷ []) ws l₅ 0)
         $ await ! tt $ pick ! (λ δ′. split ! $ nothing ! $ move ! (6 ∷ 0 ∷ []) $ join ! $ move ! (3 ∷ 0 ∷ []) $ join !
         $ move ! (0 ∷ 1 ∷ 3 ∷ [])
-        $ use3 W (raw (Calling 𝓤 H A mem run .pre (to-call 𝓤 H A W mem run ys ws ask ga ν l₄ δ ν′ l₅ δ′)))
-        (goes-call 𝓤 H A W mem run ys ws ask ga ν l₄ δ ν′ l₅ δ′)
-        $ calls-at ! fm (Calling 𝓤 H A mem run) known (to-call 𝓤 H A W mem run ys ws ask ga ν l₄ δ ν′ l₅ δ′)
+        $ use3 W (raw (Calling 𝓤 H A mem run .pre (to ν l₄ δ ν′ l₅ δ′)))
+        (goes-call l₅ 0 δ′ ws l₄ 0 δ ys 𝓤 H A mem run (ν′ ∷ []) (ν ∷ []) fullShare fullShare W ask ga)
+        $ calls-at ! fm (Calling 𝓤 H A mem run) known (to ν l₄ δ ν′ l₅ δ′)
         (and-then ! (load ! (from ! (stop !)) (look ! 13 refl)) (and-then ! (load ! (from ! (stop !)) (look ! 9 refl))
         (and-then ! (load ! (from ! (stop !)) (look ! 19 refl)) (no-more !)))) (λ v.
         use1 W (later (some (λ (r : Answer). ((‵ (flft (ν′ ∷ []) fullShare) ⊛ ‵ (flft (ν ∷ []) fullShare) ⊛ ‵ ftrue)
@@ -163,7 +167,7 @@ module _ {M : Type 1} (𝓤 : URA M) (H : Heap 𝓤) (A : Atoms 𝓤) (W : Given
                 ∷ [],
             tt,
           ),
-        ) (call-arg ys ws ask l₄ δ l₅ δ′) tt r)))) (id⊢ 𝓤 _)
+        ) (call-arg l₅ 0 δ′ ws l₄ 0 δ ys ask) tt r)))) (id⊢ 𝓤 _)
         $ await ! tt $ pick ! (λ r. split ! $ move ! (1 ∷ [])
         $ use1 W (some (λ (us : List ℕ × (List Record × (Unit {0} × Unit {0}))).
         ‵ (lasts call.ended (
@@ -173,8 +177,8 @@ module _ {M : Type 1} (𝓤 : URA M) (H : Heap 𝓤) (A : Atoms 𝓤) (W : Given
                 ∷ [],
             tt,
           ),
-        ) (call-arg ys ws ask l₄ δ l₅ δ′) us) ⊛ raw (fact 𝓤 (After ys ws ask r (us .0) (us .1 .0))))) (id⊢ 𝓤 _)
-        $ pick ! (λ us. split ! $ move ! (1 ∷ []) $ heard ! (After ys ws ask r (us .0) (us .1 .0)) (λ er.
+        ) (call-arg l₅ 0 δ′ ws l₄ 0 δ ys ask) us) ⊛ raw (fact 𝓤 (Called ws ys ask r (us .0) (us .1 .0))))) (id⊢ 𝓤 _)
+        $ pick ! (λ us. split ! $ move ! (1 ∷ []) $ heard ! (Called ws ys ask r (us .0) (us .1 .0)) (λ er.
         fsplit ! $ move ! (1 ∷ []) $ fsplit ! $ fsplit ! $ move ! (1 ∷ []) $ feqL ! (λ l. move ! (3 ∷ []) $ split !
         $ move ! (1 ∷ [])
         $ facts ! N.the-row (Is N.the-row) (shows 𝓤 H A N.the-row) r (v ∷ []) (λ ir.
