@@ -5,5 +5,7 @@ pub mod KeptCall
 pub mod Records
 pub mod Shared
 pub mod SharedRef
+pub mod StateCalls
+pub mod TableCalls
 pub mod Types
 pub mod Words

@@ -1,11 +1,18 @@
--- What the walks over a wall have in common: the types of a record and of the state, and of the locals that hold a
--- reference to one. A function over both has the state at its first lifetime and the table at its second.
+-- What the walks over a wall have in common: the types of a record and of the state, of the locals that hold a reference
+-- to one, and the references. A function over both has the state at its first lifetime and the table at its second.
+use Prim.Native.Nat.{ℕ}
+use mathlib.Core.List.{List}
+use lib.ListN.{length}
 use mir.Syntax.{Ty, named, erased, imm, mut, w16, w64, tyInt, tyRef}
+use mir.Val.{Val}
+use base.Fml.{GName}
 use denote.RattleType.{RattleType}
 use denote.Array.{Array}
 use denote.Memory.{pointee}
 use denote.Builtin.{u16}
-use denote.Slice.{sliceTy}
+use denote.Ref.{RefT}
+use denote.Slice.{sliceTy, sliceVal}
+use Rattle.requests.specs.declared.record.Record.{Record}
 use Rattle.requests.proofs.record.Record as T
 
 abbrev pub R : RattleType
@@ -46,3 +53,13 @@ recordRef = tyRef erased imm (pointee (R .written))
 
 abbrev pub sharedSlice : Ty
 sharedSlice = sliceTy recordRef
+
+-- ---- the references themselves: to a state ws, and to a table ys, at (b, o)
+abbrev pub lentState : ℕ → ℕ → GName → List ℕ → RefT (List ℕ)
+lentState b o γ ws = record { ptr = (b, o); name = γ; now = ws }
+
+abbrev pub lentTable : ℕ → ℕ → GName → List Record → RefT (List Record)
+lentTable b o γ ys = record { ptr = (b, o); name = γ; now = ys }
+
+abbrev pub tableVal : ℕ → ℕ → List Record → Val
+tableVal b o ys = sliceVal (b, o) (length ys)

@@ -70,8 +70,8 @@ use Rattle.stage.proofs.walls.call_on as f
 use Rattle.stage.proofs.walls.call_on.Statement as stated
 use Rattle.stage.proofs.walls.call_on.Code as code
 use Rattle.stage.proofs.walls.call_on.Code.Mir.{t-1}
-use Rattle.wall.proofs.CallPassed.{Called, Calling, lentState, lentTable, tableVal, call-arg, to-call, goes-call}
-use Rattle.wall.proofs.Types.{R, State, stateAgain, sliceAgain}
+use Rattle.wall.proofs.CallPassed.{Called, Calling, call-arg, to-call, goes-call}
+use Rattle.wall.proofs.Types.{R, State, stateAgain, sliceAgain, lentState, lentTable, tableVal}
 use Rattle.stage.proofs.Lent.{Table, tableArr, stateArr, tableRef, asked-wt, table-wt, state-wt, long, room}
 use Rattle.stage.proofs.Lent.{wall, called, calledVal, is-wall, is-called}
 
