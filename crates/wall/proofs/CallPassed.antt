@@ -28,7 +28,7 @@ use Rattle.requests.specs.declared.asking.Ask.{Ask}
 use Rattle.requests.specs.declared.planning.Answer.{Answer}
 use Rattle.requests.proofs.asking.Ask as K
 use Rattle.requests.proofs.asking.Ask.Laws as K′
-use Rattle.wall.proofs.Types.{R, State, lentState, lentTable, tableVal}
+use Rattle.wall.proofs.Types.{R, State, lentNumbers, lentTable, tableVal}
 use Rattle.wall.proofs.call as call
 
 -- the contract that a walk cites
@@ -42,7 +42,7 @@ Called ws ys a r us zs = outcome r zs us ≡ calling ys (getD ws 0 0) a
 
 module _ (b₁ o₁ : ℕ) (γ₁ : GName) (ws : List ℕ) (b o : ℕ) (γ : GName) (ys : List Record) where
   abbrev pub call-arg : Ask → RefT (List ℕ) × (RefT (List Record) × (Ask × Unit {0}))
-  call-arg a = (lentState b₁ o₁ γ₁ ws, (lentTable b o γ ys, (a, tt)))
+  call-arg a = (lentNumbers b₁ o₁ γ₁ ws, (lentTable b o γ ys, (a, tt)))
 
   module _ {M : Type 1} (𝓤 : URA M) (H : Heap 𝓤) (A : Atoms 𝓤) (mem : Memory → SProp 𝓤) (run : Routine → Fun 𝓤)
       (κ₁ κ : Lft) (q₁ q : Share) where
@@ -60,12 +60,12 @@ module _ (b₁ o₁ : ℕ) (γ₁ : GName) (ws : List ℕ) (b o : ℕ) (γ : GNa
 
     pub goes-call : Given 𝓤 H A → (a : Ask) → Is K.the-row a (K′.lowered a ∷ [])
         → ent 𝓤 (sep 𝓤 (sep 𝓤 (A .lft κ₁ q₁) (sep 𝓤 (A .lft κ q) (sem 𝓤 H A ftrue)))
-        (sep 𝓤 (sem 𝓤 H A (MutRef (named 0) κ₁ State .own (lentState b₁ o₁ γ₁ ws) (vptr b₁ o₁ ∷ [])))
+        (sep 𝓤 (sem 𝓤 H A (MutRef (named 0) κ₁ State .own (lentNumbers b₁ o₁ γ₁ ws) (vptr b₁ o₁ ∷ [])))
         (sem 𝓤 H A (MutSlice (named 1) κ R .own (lentTable b o γ ys) (tableVal b o ys ∷ [])))))
         (Calling 𝓤 H A mem run .pre (to-call a))
     goes-call W a ia =
         qed W ((‵ (flft κ₁ q₁) ⊛ ‵ (flft κ q) ⊛ ‵ ftrue)
-        ∷ ‵ (MutRef (named 0) κ₁ State .own (lentState b₁ o₁ γ₁ ws) (vptr b₁ o₁ ∷ []))
+        ∷ ‵ (MutRef (named 0) κ₁ State .own (lentNumbers b₁ o₁ γ₁ ws) (vptr b₁ o₁ ∷ []))
         ∷ ‵ (MutSlice (named 1) κ R .own (lentTable b o γ ys) (tableVal b o ys ∷ [])) ∷ [])
         ∵ nothing ! $ owned ! K.the-row (Is K.the-row) (LL.makes K.the-type K′.the-plain 𝓤 H A) a _ ia $ fjoin !
         $ move ! (3 ∷ 0 ∷ []) $ fjoin ! $ move ! (2 ∷ 0 ∷ []) $ fjoin ! $ move ! (1 ∷ 0 ∷ []) $ join ! $ frame ! $ done !

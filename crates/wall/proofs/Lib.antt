@@ -8,4 +8,5 @@ pub mod SharedRef
 pub mod StateCalls
 pub mod TableCalls
 pub mod Types
+pub mod WordCalls
 pub mod Words

@@ -27,7 +27,7 @@ use denote.Triple.Spec.{tripleOf}
 use Rattle.requests.specs.Plan.{lastKept}
 use Rattle.requests.proofs.last_of as last-fn
 use Rattle.requests.proofs.keep_last as keep-last
-use Rattle.wall.proofs.Types.{State, lentState}
+use Rattle.wall.proofs.Types.{State, lentNumbers}
 
 abbrev pub keep-last-arg : RefT (List ℕ) → ℕ → ℕ → RefT (List ℕ) × (ℕ × (ℕ × Unit {0}))
 keep-last-arg state was last = (state, (was, (last, tt)))
@@ -45,35 +45,43 @@ module _ {M : Type 1} (𝓤 : URA M) (H : Heap 𝓤) (A : Atoms 𝓤) (mem : Mem
 
   module _ (b o : ℕ) (ws : List ℕ) where
     abbrev pub to-last : ℕ → GName → Last .Ghost
-    to-last ν δ = (((ν ∷ [], tt), (fullShare, tt), tt, (lentState b o δ ws, tt), (vptr b o ∷ [], tt)), tt)
+    to-last ν δ = (((ν ∷ [], tt), (fullShare, tt), tt, (lentNumbers b o δ ws, tt), (vptr b o ∷ [], tt)), tt)
 
     pub goes-last : Given 𝓤 H A → (ν : ℕ) (δ : GName)
         → ent 𝓤 (sep 𝓤 (sep 𝓤 (A .lft (ν ∷ []) fullShare) (sem 𝓤 H A ftrue))
-        (sem 𝓤 H A (ShrRef (named 0) (ν ∷ []) State .own (lentState b o δ ws) (vptr b o ∷ []))))
+        (sem 𝓤 H A (ShrRef (named 0) (ν ∷ []) State .own (lentNumbers b o δ ws) (vptr b o ∷ []))))
         (Last .pre (to-last ν δ))
     goes-last W ν δ =
         qed W ((‵ (flft (ν ∷ []) fullShare) ⊛ ‵ ftrue)
-        ∷ ‵ (ShrRef (named 0) (ν ∷ []) State .own (lentState b o δ ws) (vptr b o ∷ [])) ∷ [])
+        ∷ ‵ (ShrRef (named 0) (ν ∷ []) State .own (lentNumbers b o δ ws) (vptr b o ∷ [])) ∷ [])
         ∵ nothing ! $ move ! (2 ∷ 0 ∷ []) $ fjoin ! $ move ! (1 ∷ 0 ∷ []) $ join ! $ frame ! $ done !
 
     pub last-said : (ν : ℕ) (δ : GName) (l : ℕ)
-        → ent 𝓤 (ensured 𝓤 H A last-fn.ended (last-fn.clauses 𝓤 H A mem run) (ν ∷ [], tt) (lentState b o δ ws, tt) tt l)
+        → ent 𝓤 (ensured 𝓤 H A last-fn.ended (last-fn.clauses 𝓤 H A mem run) (ν ∷ [], tt) (lentNumbers b o δ ws, tt) tt l)
         (fact 𝓤 (l ≡ getD ws 0 0))
     last-said ν δ l =
-        exE 𝓤 _ (λ us. snd∗ 𝓤 (sem 𝓤 H A (lasts last-fn.ended (ν ∷ [], tt) (lentState b o δ ws, tt) us))
+        exE 𝓤 _ (λ us. snd∗ 𝓤 (sem 𝓤 H A (lasts last-fn.ended (ν ∷ [], tt) (lentNumbers b o δ ws, tt) us))
         (fact 𝓤 (l ≡ getD ws 0 0)))
 
     module _ (κ : Lft) (q : Share) (γ : GName) (was last : ℕ) where
       abbrev pub to-keep-last : KeepLast .Ghost
-      to-keep-last =
-          (((κ, tt), (q, tt), tt, keep-last-arg (lentState b o γ ws) was last, (vptr b o ∷ [], (vint w16 was ∷ [], (vint w16 last ∷ [], tt)))), tt)
+      to-keep-last = (
+        (
+          (κ, tt),
+          (q, tt),
+          tt,
+          keep-last-arg (lentNumbers b o γ ws) was last,
+          (vptr b o ∷ [], (vint w16 was ∷ [], (vint w16 last ∷ [], tt))),
+        ),
+        tt,
+      )
 
       pub goes-keep-last : Given 𝓤 H A → was < 2 ^ 16 → last < 2 ^ 16
           → ent 𝓤 (sep 𝓤 (sep 𝓤 (A .lft κ q) (sem 𝓤 H A ftrue))
-          (sem 𝓤 H A (MutRef (named 0) κ State .own (lentState b o γ ws) (vptr b o ∷ []))))
+          (sem 𝓤 H A (MutRef (named 0) κ State .own (lentNumbers b o γ ws) (vptr b o ∷ []))))
           (KeepLast .pre to-keep-last)
       goes-keep-last W gw gl =
-          qed W ((‵ (flft κ q) ⊛ ‵ ftrue) ∷ ‵ (MutRef (named 0) κ State .own (lentState b o γ ws) (vptr b o ∷ [])) ∷ [])
+          qed W ((‵ (flft κ q) ⊛ ‵ ftrue) ∷ ‵ (MutRef (named 0) κ State .own (lentNumbers b o γ ws) (vptr b o ∷ [])) ∷ [])
           ∵ nothing ! $ owned ! u16 (Is u16) (uint-makes 𝓤 H A W w16) last _ (refl, gl) $ fjoin !
           $ owned ! u16 (Is u16) (uint-makes 𝓤 H A W w16) was _ (refl, gw) $ fjoin ! $ move ! (2 ∷ 0 ∷ []) $ fjoin !
           $ move ! (1 ∷ 0 ∷ []) $ join ! $ frame ! $ done !

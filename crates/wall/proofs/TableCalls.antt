@@ -85,8 +85,16 @@ module _ {M : Type 1} (𝓤 : URA M) (H : Heap 𝓤) (A : Atoms 𝓤) (mem : Mem
 
     module _ (κ : Lft) (q : Share) (γ : GName) (i : ℕ) (r : Record) where
       abbrev pub to-store : Store .Ghost
-      to-store =
-          (((κ, tt), (q, tt), tt, store-arg (lentTable b o γ ys) i r, (tableVal b o ys ∷ [], (vint w64 i ∷ [], (T′.lowered r ∷ [], tt)))), tt)
+      to-store = (
+        (
+          (κ, tt),
+          (q, tt),
+          tt,
+          store-arg (lentTable b o γ ys) i r,
+          (tableVal b o ys ∷ [], (vint w64 i ∷ [], (T′.lowered r ∷ [], tt))),
+        ),
+        tt,
+      )
 
       pub goes-store : Given 𝓤 H A → i < 2 ^ 64 → Is R r (T′.lowered r ∷ [])
           → ent 𝓤 (sep 𝓤 (A .lft κ q) (sem 𝓤 H A (MutSlice (named 0) κ R .own (lentTable b o γ ys) (tableVal b o ys ∷ []))))

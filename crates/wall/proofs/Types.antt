@@ -54,9 +54,9 @@ recordRef = tyRef erased imm (pointee (R .written))
 abbrev pub sharedSlice : Ty
 sharedSlice = sliceTy recordRef
 
--- ---- the references themselves: to a state ws, and to a table ys, at (b, o)
-abbrev pub lentState : ℕ → ℕ → GName → List ℕ → RefT (List ℕ)
-lentState b o γ ws = record { ptr = (b, o); name = γ; now = ws }
+-- ---- the references themselves: to numbers ws, a state or the words of a table, and to a table ys, at (b, o)
+abbrev pub lentNumbers : ℕ → ℕ → GName → List ℕ → RefT (List ℕ)
+lentNumbers b o γ ws = record { ptr = (b, o); name = γ; now = ws }
 
 abbrev pub lentTable : ℕ → ℕ → GName → List Record → RefT (List Record)
 lentTable b o γ ys = record { ptr = (b, o); name = γ; now = ys }

@@ -71,7 +71,7 @@ use Rattle.requests.proofs.keep_last.Met as keep-last-thm
 use Rattle.wall.proofs.Types.{R, State, word16, word64, stateRef, slice, stateAgain}
 use Rattle.wall.proofs.Types.{stateShared, recordMut, sliceAgain, recordRef, sharedSlice}
 use Rattle.wall.specs.Private.{kept}
-use Rattle.wall.proofs.Types.{lentState, lentTable, tableVal}
+use Rattle.wall.proofs.Types.{lentNumbers, lentTable, tableVal}
 use Rattle.wall.proofs.KeptCall.{Keep, to-keep, goes-keep, keep-said}
 use Rattle.wall.proofs.StateCalls.{Last, to-last, goes-last, last-said}
 use Rattle.wall.proofs.StateCalls.{KeepLast, Kept, keep-last-arg, to-keep-last, goes-keep-last}
@@ -120,7 +120,7 @@ module _ {M : Type 1} (𝓤 : URA M) (H : Heap 𝓤) (A : Atoms 𝓤) (W : Given
   asked-wt = LL.lawful K.the-type K′.the-laws 𝓤 H A W .typed ask _ ga .0
 
   abbrev x₁ : GName → RefT (List ℕ)
-  x₁ δ = lentState b₁ o₁ δ ws
+  x₁ δ = lentNumbers b₁ o₁ δ ws
 
   abbrev x₂ : GName → RefT (List Record)
   x₂ δ = lentTable b o δ ys

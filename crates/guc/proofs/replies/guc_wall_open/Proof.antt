@@ -55,7 +55,7 @@ use Rattle.requests.proofs.open as ask
 use Rattle.requests.proofs.open.Symbol as ask-def
 use Rattle.requests.proofs.open.Symbol.{name as #requests·open}
 use Rattle.requests.proofs.open.Met as ask-thm
-use Rattle.wall.proofs.Types.{R, State, stateRef, slice, stateAgain, recordMut, sliceAgain, lentState, lentTable, tableVal}
+use Rattle.wall.proofs.Types.{R, State, stateRef, slice, stateAgain, recordMut, sliceAgain, lentNumbers, lentTable, tableVal}
 use Rattle.wall.proofs.CallPassed.{Called, Calling, call-arg, to-call, goes-call}
 use Rattle.wall.proofs.call as call
 use Rattle.wall.proofs.call.Symbol as call-def
@@ -83,7 +83,7 @@ module _ {M : Type 1} (𝓤 : URA M) (H : Heap 𝓤) (A : Atoms 𝓤) (W : Given
   s = tableVal b o ys
 
   abbrev x₁ : RefT (List ℕ)
-  x₁ = lentState b₁ o₁ γ₁ ws
+  x₁ = lentNumbers b₁ o₁ γ₁ ws
 
   abbrev x₂ : RefT (List Record)
   x₂ = lentTable b o γ ys

@@ -56,7 +56,7 @@ use Rattle.requests.proofs.received as ask
 use Rattle.requests.proofs.received.Symbol as ask-def
 use Rattle.requests.proofs.received.Symbol.{name as #requests·received}
 use Rattle.requests.proofs.received.Met as ask-thm
-use Rattle.wall.proofs.Types.{R, State, stateRef, slice, stateAgain, recordMut, sliceAgain, lentState, lentTable, tableVal}
+use Rattle.wall.proofs.Types.{R, State, stateRef, slice, stateAgain, recordMut, sliceAgain, lentNumbers, lentTable, tableVal}
 use Rattle.wall.proofs.CallPassed.{Called, Calling, call-arg, to-call, goes-call}
 use Rattle.wall.proofs.call as call
 use Rattle.wall.proofs.call.Symbol as call-def
@@ -90,7 +90,7 @@ module _ {M : Type 1} (𝓤 : URA M) (H : Heap 𝓤) (A : Atoms 𝓤) (W : Given
   s = tableVal b o ys
 
   abbrev x₁ : RefT (List ℕ)
-  x₁ = lentState b₁ o₁ γ₁ ws
+  x₁ = lentNumbers b₁ o₁ γ₁ ws
 
   abbrev x₂ : RefT (List Record)
   x₂ = lentTable b o γ ys

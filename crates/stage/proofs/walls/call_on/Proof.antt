@@ -71,7 +71,7 @@ use Rattle.stage.proofs.walls.call_on.Statement as stated
 use Rattle.stage.proofs.walls.call_on.Code as code
 use Rattle.stage.proofs.walls.call_on.Code.Mir.{t-1}
 use Rattle.wall.proofs.CallPassed.{Called, Calling, call-arg, to-call, goes-call}
-use Rattle.wall.proofs.Types.{R, State, stateAgain, sliceAgain, lentState, lentTable, tableVal}
+use Rattle.wall.proofs.Types.{R, State, stateAgain, sliceAgain, lentNumbers, lentTable, tableVal}
 use Rattle.stage.proofs.Lent.{Table, tableArr, stateArr, tableRef, asked-wt, table-wt, state-wt, long, room}
 use Rattle.stage.proofs.Lent.{wall, called, calledVal, is-wall, is-called}
 
@@ -149,7 +149,7 @@ module _ {M : Type 1} (𝓤 : URA M) (H : Heap 𝓤) (A : Atoms 𝓤) (W : Given
         $ await ! tt $ pick ! (λ δ. split ! $ move ! (17 ∷ []) $ use1 W (‵ (partAt State fullShare ws l₅ 0))
         (array.cell-part u16 1 𝓤 H A W (uint-lawful 𝓤 H A W w16) (uint-makes 𝓤 H A W w16) ws sv l₅ iw)
         $ lft-new ! tt (λ ν′. move ! (1 ∷ [])
-        $ use1 W (later (some (λ (δ′ : GName). ‵ (MutRef (named 0) (ν′ ∷ []) State .own (lentState l₅ 0 δ′ ws) (vptr l₅ 0 ∷ []))
+        $ use1 W (later (some (λ (δ′ : GName). ‵ (MutRef (named 0) (ν′ ∷ []) State .own (lentNumbers l₅ 0 δ′ ws) (vptr l₅ 0 ∷ []))
         ⊛ ‵ (flent (ν′ ∷ []) (Body (in-memory State) l₅ 0 δ′))))) (lends-ref 𝓤 H A W State (named 0) (ν′ ∷ []) ws l₅ 0)
         $ await ! tt $ pick ! (λ δ′. split ! $ nothing ! $ move ! (6 ∷ 0 ∷ []) $ join ! $ move ! (3 ∷ 0 ∷ []) $ join !
         $ move ! (0 ∷ 1 ∷ 3 ∷ [])
