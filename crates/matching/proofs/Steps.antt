@@ -91,12 +91,6 @@ module _ (t : List Record) (g : Good t) (last : ℕ) where
   did-size c x (opens a e) = length-set t _ _
   did-size c x (answers m s) = length-set t _ _
 
-  pub did-leave : (c : Call) (x : Outcome) → Did t last c x → (x .answer .code ≡ 0 → ⊥) → left x ≡ wall t last
-  unfolding refused replyAt answerOf
-  did-leave c x (refuses _ n e) h = refl
-  did-leave c x (opens a e) h = absurd (h refl)
-  did-leave c x (answers m s) h = absurd (h refl)
-
   pub did-zeros : (c : Call) (x : Outcome) → Did t last c x → Zeros t → Zeros (x .table)
   unfolding refused replyAt
   did-zeros c x (refuses _ n e) z = z
@@ -145,7 +139,7 @@ module _ (t : List Record) (g : Good t) (last : ℕ) where
         i = lowestFree t;
         inside = ltb-true (lowestFree t) (length t) e;
         free = lowest-free t;
-        lower-open = lower-open t;
+        lower-open = λ j l. lower-open t j (omega (arith, l));
         stored = refl;
       }
 

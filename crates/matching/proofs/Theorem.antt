@@ -27,9 +27,9 @@ use Rattle.matching.specs.Matching.{FromFresh, FreshWall, WallIsMap}
 use Rattle.matching.proofs.Tables.{still-there, open-most, room, free-closed, none-open, fresh-none, fresh-open, fresh-at}
 use Rattle.matching.proofs.Fences.{passes, picked-skips}
 use Rattle.matching.proofs.Openings.{as-many-open, fence-picked, fence-closed, open-full, open-room}
-use Rattle.matching.proofs.Steps.{Zeros, did, did-good, did-size, did-leave, did-zeros, did-count, did-other, step-same}
+use Rattle.matching.proofs.Steps.{Zeros, did, did-good, did-size, did-zeros, did-count, did-other, step-same}
 use Rattle.matching.proofs.Steps.{did-open, did-answer}
-use Rattle.matching.proofs.Unusable.{bad-table}
+use Rattle.matching.proofs.Unusable.{bad-table, bad-length, refused-leaves, free-is-0}
 
 -- ---- lists
 
@@ -132,7 +132,6 @@ module _ (w : Wall) (g : Good (w .table)) where
         next-fence = next-of;
         opened = λ action z. did-open t g (w .last) action _ (did t g (w .last) (openCall action)) z;
         answered = λ m z. did-answer t g (w .last) m _ (did t g (w .last) (replyCall (some m))) z;
-        refused-leaves = λ c n. did-leave t g (w .last) c _ (did t g (w .last) c) n;
         only-its-own = λ m f n. did-other t g (w .last) m _ (did t g (w .last) (replyCall (some m))) f n;
         full = full-of;
       }
@@ -213,6 +212,9 @@ wallIsMap =
           λ t last g list. (as-map (wall t last) list g, follows (end (wall t last) list) (end-good list (wall t last) g));
       fresh-table = fresh-wall;
       bad-table = bad-table;
+      bad-length = bad-length;
+      refused-leaves = refused-leaves;
+      free-is-0 = free-is-0;
       asked-opening = asked-opening;
       asked-reply = asked-reply;
     }

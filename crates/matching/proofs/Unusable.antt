@@ -1,23 +1,24 @@
--- 35, exactly where a table is not taken. Assumes nothing.
-use Prim.Native.Nat.{ℕ}
+-- 35, exactly where a table is not taken; what a refusal leaves; which records are free. Assumes nothing.
+use Prim.Native.Nat.{ℕ, _≤_}
 use mathlib.Core.Path.{_≡_, refl, sym, _∙_}
 use mathlib.Core.Logic.{_↔_}
 use mathlib.Core.Bool.{Bool, true, false, _&&_}
 use mathlib.Core.List.{List}
 use mathlib.Core.Option.{none, some}
 use native.Mathlib.Omega.{arith}
-use borrow.Author.Tests.{eqb-true}
+use borrow.Author.Tests.{eqb-true, eq-eqb, ne-eqb, leb-true, not-false}
 use lib.ListN.{length}
-use lib.Dec.{eqb, ltb}
+use lib.Dec.{eqb, ltb, leb}
 use Rattle.message.specs.Types.{typeOf}
 use Rattle.message.proofs.Tests.{cases}
 use Rattle.ring.specs.Numbers.{need}
 use Rattle.ring.proofs.Chains.{true-false}
 use Rattle.requests.specs.declared.record.Record.{Record}
-use Rattle.requests.specs.Table.{usable, stillOpen, lowestFree}
+use Rattle.requests.specs.Table.{usable, isOpen, stillOpen, allowedLength, lowestFree}
 use Rattle.requests.specs.Calls.{refused, openNumber, openBy, replyNumber, replyAt, replyBy, reply, isReply, answerOf}
+use Rattle.requests.specs.Calls.{fresh, freshBy, freshNumber}
 use Rattle.matching.specs.Lists.{Call, openCall, replyCall, Wall, outcome}
-use Rattle.matching.specs.Matching.{Taken}
+use Rattle.matching.specs.Matching.{Taken, refusedBy}
 use Rattle.matching.proofs.Once.{usable-told}
 
 -- ---- a call answers its number
@@ -68,3 +69,46 @@ bad-table w c =
       λ e h. true-false (sym (usable-told t .1 h) ∙ by-test w c .0 e),
       λ n. by-test w c .1 (cases (usable t) (λ e. absurd (n (usable-told t .0 e))) (λ e. e)),
     )
+
+pub bad-length :
+    (t : List Record) (last : ℕ) → ((1 ≤ length t) × (length t ≤ 256) → ⊥) → fresh t last ≡ refusedBy 35 t last
+unfolding freshBy freshNumber allowedLength need refused
+bad-length t last n =
+    cases (leb 1 (length t))
+    (λ l.
+    cases (leb (length t) 256)
+    (λ h. absurd (n (leb-true 1 (length t) l, leb-true (length t) 256 h)))
+    (λ h. rw (l, h)))
+    (λ l. rw l)
+
+-- ---- what a refusal leaves
+
+open-leaves :
+    (c f : ℕ) (t : List Record) (last action : ℕ) → (c ≡ 0 → ⊥) → openBy c f t last action ≡ refusedBy c t last
+unfolding openBy refused
+open-leaves c f t last action n = rw (ne-eqb c 0 n)
+
+reply-leaves : (c kind f : ℕ) (t : List Record) (last : ℕ) → (c ≡ 0 → ⊥) → replyBy c kind f t last ≡ refusedBy c t last
+unfolding replyBy refused
+reply-leaves c kind f t last n = rw (ne-eqb c 0 n)
+
+pub refused-leaves :
+    (w : Wall) (c : Call) → (outcome w c .answer .code ≡ 0 → ⊥)
+    → outcome w c ≡ refusedBy (outcome w c .answer .code) (w .table) (w .last)
+unfolding reply
+refused-leaves w (openCall action) n =
+    rw (open-leaves (openNumber (w .table)) _ (w .table) (w .last) action (λ e.
+    n (open-code (openNumber (w .table)) _ (w .table) (w .last) action ∙ e)))
+refused-leaves w (replyCall none) n =
+    let c = replyNumber (w .table) 4 0 0 in
+    rw (reply-leaves c 0 0 (w .table) (w .last) (λ e. n (reply-code c 0 0 (w .table) (w .last) ∙ e)))
+refused-leaves w (replyCall (some m)) n =
+    let c = replyNumber (w .table) 0 (typeOf (m .body)) (m .fence) in
+    rw (reply-leaves c (typeOf (m .body)) (m .fence) (w .table) (w .last) (λ e.
+    n (reply-code c (typeOf (m .body)) (m .fence) (w .table) (w .last) ∙ e)))
+
+-- ---- which records are free
+
+pub free-is-0 : (r : Record) → (isOpen r ≡ false) ↔ (r .«is_open» ≡ 0)
+unfolding isOpen
+free-is-0 r = (λ e. eqb-true _ 0 (not-false _ e), λ e. rw (eq-eqb _ 0 e))

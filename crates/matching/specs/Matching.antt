@@ -1,5 +1,5 @@
 -- T-06, 'Prove that each call does what a plain map from fences to requests does': one statement about whole lists of
--- openings and replies, from any table that 35 lets pass and from a fresh one, with what follows that people will ask
+-- openings and replies, from any table of 16-bit fences that 35 lets pass and from a fresh one, with what follows that people ask
 -- for.
 use Prim.Native.Nat.{ℕ, _+_, _<_, _≤_}
 use mathlib.Core.Path.{_≡_}
@@ -11,17 +11,21 @@ use lib.ListN.{length, getD, set, replicate}
 use Rattle.message.specs.declared.Message.{Message}
 use Rattle.requests.specs.declared.record.Record.{Record}
 use Rattle.requests.specs.declared.planning.Answer.{Answer}
-use Rattle.requests.specs.Table.{freeRecord, isOpen, hasFence, stillOpen}
-use Rattle.requests.specs.Calls.{fresh, asksOpening, asksReply, calling}
+use Rattle.requests.specs.Table.{isOpen, hasFence, stillOpen}
+use Rattle.requests.specs.Calls.{Outcome, fresh, asksOpening, asksReply, calling}
 use Rattle.matching.specs.Map.{Map, Plain, freshPlain, further, howMany}
 use Rattle.matching.specs.Lists.{Call, openCall, replyCall, Wall, wall, left, outcome, run, end, plainRun, plainEnd}
 use Rattle.matching.specs.Lists.{openings, closings}
 
 -- ---- tables
 
+-- 'free and all zeros', in figures
+abbrev pub allZeros : Record
+allZeros = record { «is_open» = 0; fence = 0; action = 0; count = 0 }
+
 -- the record at a place
 abbrev pub at : List Record → ℕ → Record
-at t i = getD t i freeRecord
+at t i = getD t i allZeros
 
 -- 'two open records with one fence'
 pub record OneFenceTwice (t : List Record) : Type 0 where
@@ -98,8 +102,8 @@ pub record Answered (before after : List Record) (fence : ℕ) (a : Answer) : Ty
   pub inside : i < length before
   pub its-own : hasFence fence (at before i) ≡ true
   -- 'A .. closed record is free and all zeros'
-  pub closed : (a .kind ≡ 3 → ⊥) → after ≡ set before i freeRecord
-  -- 'busy adds one to its count': the count that is answered
+  pub closed : (a .kind ≡ 3 → ⊥) → after ≡ set before i allZeros
+  -- busy: the count that is answered, which is the map's (`AsMap.answers`, `Map.busier`)
   pub busy : a .kind ≡ 3 → after ≡ set before i (counting (at before i) (a .count))
 
 -- of a wall, at any point of a list
@@ -108,14 +112,13 @@ pub record Follows (w : Wall) : Type 0 where
   pub next-fence :
       (action : ℕ) → outcome w (openCall action) .answer .code ≡ 0
       → Next (λ (f : ℕ). stillOpen (w .table) f ≡ true) (w .last) (outcome w (openCall action) .answer .fence)
-  -- each accepted call stores one record, at the place that the request names; a refused one none
+  -- each accepted call stores one record, at the place that the request names
   pub opened :
       (action : ℕ) → outcome w (openCall action) .answer .code ≡ 0
       → Opened (w .table) (outcome w (openCall action) .table) (outcome w (openCall action) .answer .fence) action
   pub answered :
       (m : Message) → outcome w (replyCall (some m)) .answer .code ≡ 0
       → Answered (w .table) (outcome w (replyCall (some m)) .table) (m .fence) (outcome w (replyCall (some m)) .answer)
-  pub refused-leaves : (c : Call) → (outcome w c .answer .code ≡ 0 → ⊥) → left (outcome w c) ≡ w
   -- a reply never closes another's request, nor touches it: every other fence has what it had
   pub only-its-own :
       (m : Message) (g : ℕ) → (g ≡ m .fence → ⊥)
@@ -127,12 +130,19 @@ pub record Follows (w : Wall) : Type 0 where
 -- of a wall that was made fresh
 pub record FromFresh (w : Wall) (list : List Call) : Type 0 where
   -- 'A fresh or closed record is free and all zeros'
-  pub zeros : (i : ℕ) → isOpen (at (end w list .table) i) ≡ false → at (end w list .table) i ≡ freeRecord
+  pub zeros : (i : ℕ) → isOpen (at (end w list .table) i) ≡ false → at (end w list .table) i ≡ allZeros
   -- what is open was opened and not closed yet; so after as many openings as closings the table is free
   pub balance : openings list (run w list) ≡ closings list (run w list) + openRecords (end w list .table)
   pub all-free :
       openings list (run w list) ≡ closings list (run w list)
-      → end w list .table ≡ replicate (length (w .table)) freeRecord
+      → end w list .table ≡ replicate (length (w .table)) allZeros
+
+-- ---- refusals
+
+-- a refusal by this number: no figure beside it, table and last fence as they were
+abbrev pub refusedBy : ℕ → List Record → ℕ → Outcome
+refusedBy c t last =
+    record { answer = record { code = c; kind = 0; fence = 0; action = 0; count = 0 }; table = t; last = last }
 
 -- ---- all of it
 
@@ -147,16 +157,25 @@ pub record FreshWall (t : List Record) (last : ℕ) (list : List Call) : Type 0 
   pub from-fresh : FromFresh (madeFresh t last) list
 
 pub record WallIsMap : Type 0 where
-  -- from any table that is taken, after every list
+  -- from any good table, after every list
   pub any-table :
       (t : List Record) (last : ℕ) → Good t → (list : List Call)
       → AsMap (wall t last) (plainOf (wall t last)) list × Follows (end (wall t last) list)
   -- from a fresh one, after every list
   pub fresh-table :
       (t : List Record) (last : ℕ) → 1 ≤ length t → length t ≤ 256 → (list : List Call) → FreshWall t last list
-  -- 'Another table length, or two open records with one fence, is 35, before all else.': every call answers it exactly
-  -- where its table is one of the two
+  -- 'Another table length, or two open records with one fence, is 35, before all else.': every opening and reply
+  -- answers it exactly where its table is one of the two
   pub bad-table : (w : Wall) (c : Call) → (outcome w c .answer .code ≡ 35) ↔ (Taken (w .table) → ⊥)
+  -- of a table that is made fresh the length alone is asked
+  pub bad-length :
+      (t : List Record) (last : ℕ) → ((1 ≤ length t) × (length t ≤ 256) → ⊥) → fresh t last ≡ refusedBy 35 t last
+  -- a refusal 'changes nothing', on any table
+  pub refused-leaves :
+      (w : Wall) (c : Call) → (outcome w c .answer .code ≡ 0 → ⊥)
+      → outcome w c ≡ refusedBy (outcome w c .answer .code) (w .table) (w .last)
+  -- a record is free where this number of it is 0, and open where it is any other
+  pub free-is-0 : (r : Record) → (isOpen r ≡ false) ↔ (r .«is_open» ≡ 0)
   -- what `wall::call` promises for what is asked is what the lists speak of
   pub asked-opening :
       (w : Wall) (action : ℕ) → calling (w .table) (w .last) (asksOpening action) ≡ outcome w (openCall action)
