@@ -15,7 +15,8 @@ pub fn last_of(wall: &[u16; WALL_WORDS]) -> u16
     wall[0]
 }
 
-// The last fence from now on, which was another: where it is the same nothing is written.
+// The last fence from now on, which was another: where it is the same nothing is written. (A store of what lies there
+// already no contract can see; interop/loads looks for it.)
 pub fn keep_last(wall: &mut [u16; WALL_WORDS], was: u16, last: u16)
     ensures { λ _. ⌜ getD (now (wall .exit)) 0 0 ≡ lastKept was last (getD (now (wall .entry)) 0 0) ⌝ }
 {

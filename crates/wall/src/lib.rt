@@ -79,7 +79,8 @@ fn clear(t: &mut [Record], m: usize)
     }
 }
 
-// Makes a table fresh, whatever it held: every record free, the last fence 65,535.
+// Makes a table fresh, whatever it held: every record free, the last fence 65,535. Where the length is refused `kept` is
+// 0 or there is no record, so that nothing is freed before `begin` says so.
 pub fn fresh(wall: &mut [u16; WALL_WORDS], t: &mut [Record]) -> u32
     ensures { λ r.
         ⌜ given (numberAlone r) (now (t .exit)) (now (wall .exit))
