@@ -18,7 +18,7 @@ use Rattle.requests.specs.Table.{usable, isOpen, stillOpen, allowedLength, lowe
 use Rattle.requests.specs.Calls.{refused, openNumber, openBy, replyNumber, replyAt, replyBy, reply, isReply, answerOf}
 use Rattle.requests.specs.Calls.{fresh, freshBy, freshNumber}
 use Rattle.matching.specs.Lists.{Call, openCall, replyCall, Wall, outcome}
-use Rattle.matching.specs.Matching.{Taken, refusedBy}
+use Rattle.matching.specs.Matching.{Taken, turnedAway}
 use Rattle.matching.proofs.Once.{usable-told}
 
 -- ---- a call answers its number
@@ -71,7 +71,7 @@ bad-table w c =
     )
 
 pub bad-length :
-    (t : List Record) (last : ℕ) → ((1 ≤ length t) × (length t ≤ 256) → ⊥) → fresh t last ≡ refusedBy 35 t last
+    (t : List Record) (last : ℕ) → ((1 ≤ length t) × (length t ≤ 256) → ⊥) → fresh t last ≡ turnedAway 35 t last
 unfolding freshBy freshNumber allowedLength need refused
 bad-length t last n =
     cases (leb 1 (length t))
@@ -84,17 +84,17 @@ bad-length t last n =
 -- ---- what a refusal leaves
 
 open-leaves :
-    (c f : ℕ) (t : List Record) (last action : ℕ) → (c ≡ 0 → ⊥) → openBy c f t last action ≡ refusedBy c t last
+    (c f : ℕ) (t : List Record) (last action : ℕ) → (c ≡ 0 → ⊥) → openBy c f t last action ≡ turnedAway c t last
 unfolding openBy refused
 open-leaves c f t last action n = rw (ne-eqb c 0 n)
 
-reply-leaves : (c kind f : ℕ) (t : List Record) (last : ℕ) → (c ≡ 0 → ⊥) → replyBy c kind f t last ≡ refusedBy c t last
+reply-leaves : (c kind f : ℕ) (t : List Record) (last : ℕ) → (c ≡ 0 → ⊥) → replyBy c kind f t last ≡ turnedAway c t last
 unfolding replyBy refused
 reply-leaves c kind f t last n = rw (ne-eqb c 0 n)
 
 pub refused-leaves :
     (w : Wall) (c : Call) → (outcome w c .answer .code ≡ 0 → ⊥)
-    → outcome w c ≡ refusedBy (outcome w c .answer .code) (w .table) (w .last)
+    → outcome w c ≡ turnedAway (outcome w c .answer .code) (w .table) (w .last)
 unfolding reply
 refused-leaves w (openCall action) n =
     rw (open-leaves (openNumber (w .table)) _ (w .table) (w .last) action (λ e.

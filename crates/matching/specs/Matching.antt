@@ -140,8 +140,8 @@ pub record FromFresh (w : Wall) (list : List Call) : Type 0 where
 -- ---- refusals
 
 -- a refusal by this number: no figure beside it, table and last fence as they were
-abbrev pub refusedBy : ℕ → List Record → ℕ → Outcome
-refusedBy c t last =
+abbrev pub turnedAway : ℕ → List Record → ℕ → Outcome
+turnedAway c t last =
     record { answer = record { code = c; kind = 0; fence = 0; action = 0; count = 0 }; table = t; last = last }
 
 -- ---- all of it
@@ -169,11 +169,11 @@ pub record WallIsMap : Type 0 where
   pub bad-table : (w : Wall) (c : Call) → (outcome w c .answer .code ≡ 35) ↔ (Taken (w .table) → ⊥)
   -- of a table that is made fresh the length alone is asked
   pub bad-length :
-      (t : List Record) (last : ℕ) → ((1 ≤ length t) × (length t ≤ 256) → ⊥) → fresh t last ≡ refusedBy 35 t last
+      (t : List Record) (last : ℕ) → ((1 ≤ length t) × (length t ≤ 256) → ⊥) → fresh t last ≡ turnedAway 35 t last
   -- a refusal 'changes nothing', on any table
   pub refused-leaves :
       (w : Wall) (c : Call) → (outcome w c .answer .code ≡ 0 → ⊥)
-      → outcome w c ≡ refusedBy (outcome w c .answer .code) (w .table) (w .last)
+      → outcome w c ≡ turnedAway (outcome w c .answer .code) (w .table) (w .last)
   -- a record is free where this number of it is 0, and open where it is any other
   pub free-is-0 : (r : Record) → (isOpen r ≡ false) ↔ (r .«is_open» ≡ 0)
   -- what `wall::call` promises for what is asked is what the lists speak of
