@@ -8,9 +8,9 @@
  *
  * Every function is total: it answers any contents and any counts, it never aborts, and it keeps
  * nothing between calls; there is no hidden state and no allocation. Where several numbers apply,
- * the lowest is given, but 22 is tested before 21, 35 before all others of a wall, and a part
- * inside a directory is judged only after the directory itself; 101 is judged before all others,
- * 100 after them.
+ * the lowest is given, but 22 is tested before 21, the calls of a wall have an order of their own (35
+ * before all others), and a part inside a directory is judged only after the directory itself; 101 is
+ * judged before all others, 100 after them.
  *
  * "Changes" below names everything a call may change; the rest stays, also on a refusal.
  *
@@ -67,9 +67,9 @@ extern "C" {
 
 /* The version of this interface, and a function of the archive that has it in its name: an object
  * compiled with a header of another version does not link. (Of 1, which had no such name, it does.) */
-#define GUC_INTERFACE 2
-uint32_t guc_interface_2(void);
-static uint32_t (*const guc_interface_linked)(void) GUC_KEPT = guc_interface_2;
+#define GUC_INTERFACE 3
+uint32_t guc_interface_3(void);
+static uint32_t (*const guc_interface_linked)(void) GUC_KEPT = guc_interface_3;
 
 /* The answers: name, number, and the sentence that guc_strerror has for a log. 0 to 35 are the
  * specification's (from 22 on by change requests; 22 is tested after 20 and before 21), 100 and 101
@@ -90,7 +90,7 @@ static uint32_t (*const guc_interface_linked)(void) GUC_KEPT = guc_interface_2;
 	X(GUC_EMPTY, 11, "nothing pending") \
 	X(GUC_OUT_OF_TURN, 12, "publish before the last dword moved, or a move after it") \
 	X(GUC_MALFORMED, 13, "the message is whole but malformed") \
-	X(GUC_BAD_FIELD, 14, "a field too wide, NUM_DWORDS 0, or a name not 1 to 12 bytes without a zero") \
+	X(GUC_BAD_FIELD, 14, "a field too wide, NUM_DWORDS 0, a name not 1 to 12 bytes without a zero, or more than 256 reply dwords") \
 	X(GUC_SHORT_BLOB, 15, "too short for its header") \
 	X(GUC_CSS_SIZES, 16, "the sizes in its header disagree") \
 	X(GUC_CSS_BEYOND, 17, "a part of the image lies beyond its end") \
@@ -100,7 +100,8 @@ static uint32_t (*const guc_interface_linked)(void) GUC_KEPT = guc_interface_2;
 	X(GUC_CPD_BEYOND, 21, "the entry's part lies beyond the directory's end") \
 	X(GUC_DUPLICATE_ENTRY, 22, "more than one entry has that name") \
 	X(GUC_TABLE_FULL, 26, "every record of the table is open") \
-	X(GUC_NO_REQUEST, 27, "no open request has that fence, or the message is no reply") \
+	X(GUC_NO_REQUEST, 27, "the message is no request to send, or no reply to an open one") \
+	X(GUC_NO_REPLY_ROOM, 28, "the reply buffer would have too little room for the answer") \
 	X(GUC_BAD_TABLE, 35, "a table has 1 to 256 records, no two open with one fence") \
 	X(GUC_NO_ROOM, 100, "the destination is too short") \
 	X(GUC_NO_SUCH, 101, "no such type or component")
@@ -120,6 +121,7 @@ enum {
 	GUC_RING_MAX = 16384,
 	GUC_NAME_BYTES = 12,       /* longest name of a directory's entry */
 	GUC_RECORDS_MAX = 256,     /* most records of a table of requests */
+	GUC_REPLY_DWORDS_MAX = 256, /* most reply dwords set aside for a request */
 	GUC_FIRST_LAST = 65535     /* the last fence of a fresh wall: the first one given is 0 */
 };
 
@@ -208,10 +210,12 @@ struct guc_record {
 	uint16_t fence;
 	uint16_t action;
 	uint16_t count;  /* times answered busy, at most 65,535 */
+	uint16_t room;   /* reply dwords set aside for it; an opening writes 0 to 256 */
 };
 
-/* What the calls of one wall share: the last fence given out. */
-struct guc_wall { uint16_t last; };
+/* What the calls of one wall share: the last fence given out, and how many dwords the buffer has in
+ * which the replies come. */
+struct guc_wall { uint16_t last; uint16_t n; };
 
 /* What a call of a wall answers: a number, then an opening's fence, or a reply's kind with the
  * request's action and count. The others are 0, and on a refusal all but code are. */
@@ -355,36 +359,47 @@ GUC_ANSWER struct guc_unpacked guc_unpack(const uint32_t *msg, size_t len);
 
 /* A WALL OF REQUESTS
  *
- * Many requests under way at once, and each reply finds its own. table and records are a table of
- * that many records, 1 to GUC_RECORDS_MAX; table and wall are the caller's, one call at a time.
- * Nothing is sent or received here: make the table fresh once, then open, send a request with the
- * fence that was given, receive, and hand each received message to guc_wall_reply.
+ * Many requests under way at once: each has a fence of its own and room for its answer set aside, and
+ * each reply finds its request. table and records are a table of that many records, 1 to
+ * GUC_RECORDS_MAX; table and wall are the caller's, one call at a time. Make the wall fresh once, send
+ * requests through guc_wall_send, receive, and hand each received message to guc_wall_reply.
  *
- * An opening or a reply answers 35, before any other number, for another number of records or for
- * two open records with one fence. It takes each record into a copy of its own once, judges and
- * uses that, and writes at most one record. */
+ * Each call answers 35, before any other number, for another number of records and (but for
+ * guc_wall_fresh) for two open records with one fence; then 2 for a reply buffer whose N is not
+ * allowed. A send or a reply takes each record into a copy of its own once, judges and uses that, and
+ * writes at most one record. */
 
-/* Makes a table fresh, whatever it holds: every record all zeros, the last fence 65,535.
- * Answers 0, or 35 for another number of records.
+/* Makes a wall fresh, whatever it holds: every record all zeros, the last fence 65,535. reply_n is N of
+ * the buffer in which the replies will come.
+ * Answers 0, or 35 for another number of records, or 2 for a reply_n that is not allowed.
  * Changes table and wall on 0. */
 GUC_ANSWER uint32_t guc_wall_fresh(struct guc_wall *wall, struct guc_record *table,
-    size_t records);
+    size_t records, size_t reply_n);
 
-/* Opens a request with this action. Its fence is the next after wall's last that is not open,
- * counting up and wrapping after 65,535; its record the lowest free one.
- * Answers 0 and the fence, or 35 or 26 (every record is open).
- * Changes that record and wall on 0. */
-GUC_ANSWER struct guc_wall_answer guc_wall_open(struct guc_wall *wall, struct guc_record *table,
-    size_t records, uint16_t action);
+/* Sends a request of msg_len dwords whole, as guc_send does, with a fence of the wall's in the place of
+ * its own, and keeps a record of it. The fence is the next after wall's last that is not open, counting
+ * up and wrapping after 65,535; the record is the lowest free one, with the action of the message, and
+ * with so many reply dwords set aside as room says. A reply of that many dwords then finds room, where
+ * the reply buffer carries replies alone and a request is closed after its reply is received. A
+ * message's first two dwords are read once, and no dword twice: what is judged is what is sent.
+ * Answers 0 and the fence, or, tested in this order, 35, 2 (wall's N), 14 (room is above 256), 27 (the
+ * message is malformed, or of another type than request), 26 (every record is open), 28 (what all open
+ * requests have set aside plus room exceeds wall's N - 1), or the ring's own, as guc_send gives it: 2
+ * (n), 3, 6, 7, 8 or 10. It never answers 4.
+ * Changes that record, wall, s, TAIL and the ring on 0; STATUS on 7 and 8. */
+GUC_ANSWER struct guc_wall_answer guc_wall_send(struct guc_wall *wall, struct guc_record *table,
+    size_t records, struct guc_sender *s, struct guc_descriptor *desc, uint32_t *ring, size_t n,
+    const uint32_t *msg, size_t msg_len, uint32_t room);
 
 /* Matches a received message of msg_len dwords to the open request with its fence. Success, failure
- * and retry close it (after retry the request is to be sent again, as a new one); busy adds one to
- * its count, which stops at 65,535, and leaves it open. The origin is not asked.
- * Answers 0 with the kind, the request's action and its count, or 35, 4 (malformed) or 27 (no open
- * request has the fence, or the message is a request, an event or a fast request).
+ * and retry close it, and with it end what was set aside (after retry the request is to be sent again,
+ * as a new one); busy adds one to its count, which stops at 65,535, and leaves it open. The origin is
+ * not asked.
+ * Answers 0 with the kind, the request's action and its count, or 35, 2 (wall's N), 4 (malformed) or 27
+ * (no open request has the fence, or the message is a request, an event or a fast request).
  * Changes that record on 0; wall stays. */
-GUC_ANSWER struct guc_wall_answer guc_wall_reply(struct guc_wall *wall, struct guc_record *table,
-    size_t records, const uint32_t *msg, size_t msg_len);
+GUC_ANSWER struct guc_wall_answer guc_wall_reply(const struct guc_wall *wall,
+    struct guc_record *table, size_t records, const uint32_t *msg, size_t msg_len);
 
 /* The age of a fence beside the newest one: fence less newest, modulo 65,536, from -32,768 to
  * 32,767. 0 is the newest itself, below 0 are older ones, by up to 32,768 fences: one further behind

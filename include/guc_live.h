@@ -180,6 +180,20 @@ guc_live_send(struct guc_sender *s, struct guc_descriptor *desc,
 	return code;
 }
 
+GUC_ANSWER static inline struct guc_wall_answer
+guc_live_wall_send(struct guc_wall *wall, struct guc_record *table, size_t records,
+		   struct guc_sender *s, struct guc_descriptor *desc, uint32_t *ring,
+		   size_t n, const uint32_t *msg, size_t msg_len, uint32_t room)
+{
+	struct guc_descriptor own;
+	struct guc_wall_answer answer;
+
+	guc_live_words(desc, &own);
+	answer = guc_wall_send(wall, table, records, s, &own, ring, n, msg, msg_len, room);
+	guc_live_sent(desc, &own, answer.code);
+	return answer;
+}
+
 GUC_ANSWER static inline struct guc_received
 guc_live_receive(struct guc_receiver *r, struct guc_descriptor *desc,
 		 const uint32_t *ring, size_t n, uint32_t *out, size_t out_len)

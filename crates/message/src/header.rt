@@ -3,7 +3,7 @@ ghost use mathlib.Core.Path.{_≡_};
 ghost use lib.ListN.{getD};
 ghost use Rattle.message.specs.Fields.{fieldOf, numDwords, type};
 ghost use Rattle.message.specs.Types.{known};
-ghost use Rattle.message.specs.Header.{totalLength, wellFormed, startsMessage};
+ghost use Rattle.message.specs.Header.{totalLength, wellFormed, startsMessage, headerWith, actionOf};
 
 // 'NUM_DWORDS 1 to 255'
 const NUM_DWORDS_MAX: u32 = 255;
@@ -81,4 +81,18 @@ pub fn starts_message(len: usize, header: u32, word: u32) -> bool
     ensures { λ r. ⌜ r ≡ startsMessage len header word ⌝ }
 {
     (len == total_length(header)) & well_formed(header, word)
+}
+
+// The action of a request, in its HXG dword 0.
+pub fn action_of(word: u32) -> u16
+    ensures { λ r. ⌜ r ≡ actionOf word ⌝ }
+{
+    (word % 0x1_0000) as u16
+}
+
+// A header with this fence in the place of its own.
+pub fn with_fence(fence: u16, header: u32) -> u32
+    ensures { λ r. ⌜ r ≡ headerWith fence header ⌝ }
+{
+    fence as u32 * 0x1_0000 + header % 0x1_0000
 }

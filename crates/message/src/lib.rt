@@ -11,10 +11,13 @@ pub use header::TYPE_FAST_REQUEST;
 pub use header::TYPE_REQUEST;
 pub use header::TYPE_RETRY;
 pub use header::TYPE_SUCCESS;
+pub use header::action_of;
 pub use header::dword_at;
+pub use header::hxg_type;
 pub use header::starts_message;
 pub use header::total_length;
 pub use header::well_formed;
+pub use header::with_fence;
 pub use packing::pack;
 pub use unpacking::unpack;
 

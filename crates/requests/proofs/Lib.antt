@@ -1,4 +1,4 @@
-pub mod Asked
+pub mod Beside
 pub mod Carried
 pub mod Fences
 pub mod Marks

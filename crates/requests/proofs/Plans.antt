@@ -1,18 +1,23 @@
 -- What a plan is, by the tests of its table. Assumes nothing.
-use Prim.Native.Nat.{ℕ, _≤_, _<_}
-use mathlib.Core.Path.{_≡_}
-use mathlib.Core.Bool.{true, false, and-false}
+use Prim.Native.Nat.{ℕ, _+_, _-_, _%_, _≤_, _<_}
+use mathlib.Core.Path.{_≡_, refl}
+use mathlib.Core.Bool.{true, false, _&&_, and-false}
 use mathlib.Core.List.{List}
-use lib.ListN.{length, getD, List·getD-map}
-use borrow.Author.Tests.{leb-true, lt-ltb, le-ltb, ne-eqb, eqb-true}
+use native.Mathlib.Omega.{arith}
+use lib.ListN.{length, getD}
+use borrow.Author.Tests.{leb-true, lt-ltb, le-ltb, lt-leb, le-leb, ne-eqb, eqb-true}
 use lib.Dec.{leb, eqb}
-use Rattle.message.proofs.Tests.{and-r, cases}
+use Rattle.message.specs.Header.{actionOf}
+use Rattle.message.proofs.Tests.{and-l, and-r, cases}
+use Rattle.ring.specs.Ring.{allowed}
+use Rattle.ring.specs.Numbers.{need}
+use Rattle.ring.proofs.Chains.{passed, passed-rest}
 use Rattle.requests.specs.declared.record.Record.{Record}
 use Rattle.requests.specs.declared.asking.Ask.{Ask}
+use Rattle.requests.specs.declared.state.State.{State}
 use Rattle.requests.specs.Fence.{nextFence}
-use Rattle.requests.specs.Table.{freeRecord, stillOpen, fenceTwice, allowedLength, lowestFree, placeOf}
-use Rattle.requests.specs.Calls.{isReply, openRecord, recordAfter, answerOf}
-use Rattle.requests.specs.Words.{recordOf, records}
+use Rattle.requests.specs.Table.{freeRecord, stillOpen, fenceTwice, allowedLength, lowestFree, placeOf, setAside}
+use Rattle.requests.specs.Calls.{freshNumber, isReply, openRecord, recordAfter, answerOf}
 use Rattle.requests.specs.Plan.{refusedPlan, openPlan, replyPlan, planOf, lastKept}
 
 -- an allowed length
@@ -20,79 +25,102 @@ pub allowed-most : (n : ℕ) → allowedLength n ≡ true → n ≤ 256
 unfolding allowedLength
 allowed-most n e = leb-true n 256 (and-r (leb 1 n) (leb n 256) e)
 
--- the record at a place
-pub record-at : (words : List ℕ) (i : ℕ) → getD (records words) i freeRecord ≡ recordOf (getD words i 0)
-unfolding recordOf
-record-at words i = List·getD-map recordOf words i 0
+-- and an allowed N
+pub allowed-least : (n : ℕ) → allowed n ≡ true → 1 ≤ n
+unfolding allowed
+allowed-least n e =
+    let l = leb-true 1024 n (and-r (eqb (n % 1024) 0) (leb 1024 n) (and-l (eqb (n % 1024) 0 && leb 1024 n) (leb n 16384) e)) in
+    omega arith
 
 -- a reply
-module _ (t : List Record) (last : ℕ) {c n : ℕ} (kind fence : ℕ) (s : length t ≡ n) where
-  pub reply-refused : (c ≡ 0 → ⊥) → replyPlan t last c kind fence ≡ refusedPlan c n last
+module _ (t : List Record) (last : ℕ) {n : ℕ} (kind fence : ℕ) (s : length t ≡ n) where
+  pub reply-closed : stillOpen t fence ≡ false → replyPlan t last kind fence ≡ refusedPlan 27 n last
   unfolding replyPlan
-  reply-refused h = rw (ne-eqb c 0 h, s)
+  reply-closed o = rw (o, s)
 
-  module _ (e : c ≡ 0) where
-    pub reply-closed : stillOpen t fence ≡ false → replyPlan t last c kind fence ≡ refusedPlan 27 n last
-    unfolding replyPlan
-    reply-closed o = rw (e, o, s)
+  pub reply-other : isReply kind ≡ false → replyPlan t last kind fence ≡ refusedPlan 27 n last
+  unfolding replyPlan
+  reply-other k = rw (k, and-false, s)
 
-    pub reply-other : isReply kind ≡ false → replyPlan t last c kind fence ≡ refusedPlan 27 n last
-    unfolding replyPlan
-    reply-other k = rw (e, k, and-false, s)
+  pub reply-there :
+      stillOpen t fence ≡ true → isReply kind ≡ true
+      → replyPlan t last kind fence
+      ≡ record {
+        at = placeOf fence t;
+        stored = recordAfter kind (getD t (placeOf fence t) freeRecord);
+        answer = answerOf kind (getD t (placeOf fence t) freeRecord);
+        was = last;
+        last = last;
+      }
+  unfolding replyPlan
+  reply-there o k = rw (o, k)
 
-    pub reply-there :
-        stillOpen t fence ≡ true → isReply kind ≡ true
-        → replyPlan t last c kind fence
-        ≡ record {
-          at = placeOf fence t;
-          stored = recordAfter kind (getD t (placeOf fence t) freeRecord);
-          answer = answerOf kind (getD t (placeOf fence t) freeRecord);
-          last = last;
-        }
-    unfolding replyPlan
-    reply-there o k = rw (e, o, k)
-
-module _ (t : List Record) (last : ℕ) where
+module _ (t : List Record) (s : State) where
   -- an opening
-  module _ (action : ℕ) where
-    pub plan-full : length t ≤ lowestFree t → openPlan t last action ≡ refusedPlan 26 (length t) last
+  module _ (room action : ℕ) where
+    pub plan-full : length t ≤ lowestFree t → openPlan t s room action ≡ refusedPlan 26 (length t) (s .last)
     unfolding openPlan
     plan-full h = rw (le-ltb (lowestFree t) (length t) h)
 
-    pub plan-free :
-        lowestFree t < length t
-        → let fence = nextFence (stillOpen t) last in
-        openPlan t last action
-        ≡ record {
-          at = lowestFree t;
-          stored = openRecord fence action;
-          answer = record { code = 0; kind = 0; fence = fence; action = 0; count = 0 };
-          last = fence;
-        }
-    unfolding openPlan
-    plan-free h = rw (lt-ltb (lowestFree t) (length t) h)
+    module _ (h : lowestFree t < length t) where
+      pub plan-no-room :
+          s .n - 1 < setAside t + room → openPlan t s room action ≡ refusedPlan 28 (length t) (s .last)
+      unfolding openPlan
+      plan-no-room l = rw (lt-ltb (lowestFree t) (length t) h, lt-leb (setAside t + room) (s .n - 1) l)
+
+      pub plan-free :
+          setAside t + room ≤ s .n - 1
+          → let fence = nextFence (stillOpen t) (s .last) in
+          openPlan t s room action
+          ≡ record {
+            at = lowestFree t;
+            stored = openRecord fence action room;
+            answer = record { code = 0; kind = 0; fence = fence; action = 0; count = 0 };
+            was = s .last;
+            last = fence;
+          }
+      unfolding openPlan
+      plan-free l = rw (lt-ltb (lowestFree t) (length t) h, le-leb (setAside t + room) (s .n - 1) l)
 
   -- what is asked of a table
   module _ (n : ℕ) (a : Ask) where
-    pub plan-unfit : allowedLength n ≡ false → planOf t n last a ≡ refusedPlan 35 n last
+    pub plan-unfit : allowedLength n ≡ false → planOf t n s a ≡ refusedPlan 35 n (s .last)
     unfolding planOf
     plan-unfit e = rw e
 
-    pub plan-twice : fenceTwice t ≡ true → planOf t n last a ≡ refusedPlan 35 n last
+    pub plan-twice : fenceTwice t ≡ true → planOf t n s a ≡ refusedPlan 35 n (s .last)
     unfolding planOf
     plan-twice e = rw (e, and-false)
 
-    -- of a fit table: an opening, and a reply
+    -- of a fit table: 2, what refuses it already, an opening, and a reply
     module _ (e : allowedLength n ≡ true) (f : fenceTwice t ≡ false) where
-      pub plan-opens : a .opening ≡ true → planOf t n last a ≡ openPlan t last (a .action)
+      pub plan-bad-n : allowed (s .n) ≡ false → planOf t n s a ≡ refusedPlan 2 n (s .last)
       unfolding planOf
-      plan-opens o = rw (e, f, o)
+      plan-bad-n g = rw (e, f, g)
 
-      pub plan-replies : a .opening ≡ false → planOf t n last a ≡ replyPlan t last (a .code) (a .kind) (a .fence)
-      unfolding planOf
-      plan-replies o = rw (e, f, o)
+      module _ (g : allowed (s .n) ≡ true) where
+        pub plan-refused : (a .code ≡ 0 → ⊥) → planOf t n s a ≡ refusedPlan (a .code) n (s .last)
+        unfolding planOf
+        plan-refused c = rw (e, f, g, ne-eqb (a .code) 0 c)
 
--- ---- the state's word
+        pub plan-opens :
+            a .code ≡ 0 → a .opening ≡ true → planOf t n s a ≡ openPlan t s (a .room) (actionOf (a .word))
+        unfolding planOf
+        plan-opens c o = rw (e, f, g, c, o)
+
+        pub plan-replies : a .code ≡ 0 → a .opening ≡ false → planOf t n s a ≡ replyPlan t (s .last) (a .kind) (a .fence)
+        unfolding planOf
+        plan-replies c o = rw (e, f, g, c, o)
+
+-- ---- the state's words
+
+-- the N of a wall that is made fits its word
+pub begun-small : (records n : ℕ) → freshNumber records n ≡ 0 → n ≤ 16384
+unfolding freshNumber allowed
+begun-small records n e =
+    let rest : need (allowed n) 2 0 ≡ 0 = passed-rest (allowedLength records) 35 (need (allowed n) 2 0) 0 refl e in
+    let ok : allowed n ≡ true = passed (allowed n) 2 0 0 refl rest in
+    leb-true n 16384 (and-r (eqb (n % 1024) 0 && leb 1024 n) (leb n 16384) ok)
 
 -- where the word was the last fence, it is afterwards
 pub kept-last : (was last : ℕ) → lastKept was last was ≡ last

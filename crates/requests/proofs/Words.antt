@@ -1,9 +1,9 @@
--- A record comes back from its word. Assumes nothing.
+-- A record comes back from its word and what is set aside. Assumes nothing.
 use Prim.Native.Nat.{ℕ, _+_, _*_, _/_, _%_, _<_}
 use mathlib.Core.Path.{_≡_}
 use native.Mathlib.Omega.{arith}
 use Rattle.requests.specs.declared.record.Record.{Record}
-use Rattle.requests.specs.Words.{recordOf, wordOf}
+use Rattle.requests.specs.Words.{recordWith, wordOf}
 
 module _ (a b c d : ℕ) (ha : a < 65536) (hb : b < 65536) (hc : c < 65536) (hd : d < 65536) where
   abbrev word : ℕ
@@ -23,8 +23,8 @@ module _ (a b c d : ℕ) (ha : a < 65536) (hb : b < 65536) (hc : c < 65536) (hd 
 
 pub word-back :
     (r : Record) → r .«is_open» < 65536 → r .fence < 65536 → r .action < 65536 → r .count < 65536
-    → recordOf (wordOf r) ≡ r
-unfolding recordOf wordOf
+    → recordWith (wordOf r) (r .room) ≡ r
+unfolding recordWith wordOf
 word-back r ha hb hc hd =
     rw (
       first (r .«is_open») (r .fence) (r .action) (r .count) ha hb hc hd,

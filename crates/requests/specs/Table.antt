@@ -1,6 +1,7 @@
 -- The table of requests (document 02, T-06): 'a lent table of 1 to 256 request records, each free or open with its
--- fence, action and times answered busy'.
-use Prim.Native.Nat.{ℕ, suc}
+-- fence, action and times answered busy'; and T-08: 'Let the wall's record of a request also hold the reply dwords set
+-- aside for it'.
+use Prim.Native.Nat.{ℕ, suc, _+_}
 use mathlib.Core.Bool.{Bool, false, not, _&&_, _||_, cond}
 use mathlib.Core.List.{List, [], _∷_}
 use lib.ListN.{length}
@@ -9,7 +10,7 @@ use Rattle.requests.specs.declared.record.Record.{Record}
 
 -- 'A fresh or closed record is free and all zeros'
 abbrev pub freeRecord : Record
-freeRecord = record { «is_open» = 0; fence = 0; action = 0; count = 0 }
+freeRecord = record { «is_open» = 0; fence = 0; action = 0; count = 0; room = 0 }
 
 -- A record is free where `is_open` is 0, whatever else it holds, and open where it is any other number: all that C can
 -- put there has a meaning.
@@ -48,3 +49,8 @@ lowestFree (r ∷ t) = cond (isOpen r) (suc (lowestFree t)) 0
 unfoldable pub placeOf : ℕ → List Record → ℕ
 placeOf f [] = 0
 placeOf f (r ∷ t) = cond (hasFence f r) 0 (suc (placeOf f t))
+
+-- 'the dwords set aside by all open requests', whatever each record holds: a free one counts for nothing
+unfoldable pub setAside : List Record → ℕ
+setAside [] = 0
+setAside (r ∷ t) = cond (isOpen r) (r .room) 0 + setAside t

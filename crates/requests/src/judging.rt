@@ -2,10 +2,11 @@
 // table itself.
 ghost use mathlib.Core.Path.{_≡_};
 ghost use mathlib.Core.Bool.{false};
+ghost use Prim.Native.Nat.{_≤_};
 ghost use lib.ListN.{length};
 ghost use Rattle.requests.specs.Fence.{nextFence};
-ghost use Rattle.requests.specs.Table.{stillOpen, fenceTwice, lowestFree, placeOf};
-ghost use Rattle.requests.specs.Words.{records};
+ghost use Rattle.requests.specs.Table.{stillOpen, fenceTwice, lowestFree, placeOf, setAside};
+ghost use Rattle.requests.specs.Words.{records, recordsWith};
 ghost use Rattle.requests.specs.Private.{Marked};
 use crate::fence::after;
 use crate::record::fence_of;
@@ -87,4 +88,21 @@ pub(crate) fn next_fence(words: &[u64], flags: &[u8; FLAGS], last: u16) -> u16
         tries = tries + 1;
     }
     fence
+}
+
+// The dwords set aside by all open records. There are at most 256 of them, each with at most 65,535, so that the sum is far
+// below 32 bits.
+pub(crate) fn set_aside(words: &[u64], rooms: &[u16]) -> u32
+    requires { ⌜ (length (now words) ≡ length (now rooms)) × (length (now words) ≤ 256) ⌝ }
+    ensures { λ r. ⌜ (r ≡ setAside (recordsWith (now (words .entry)) (now (rooms .entry)))) × (r ≤ 16776960) ⌝ }
+{
+    let mut sum: u32 = 0;
+    let mut i: usize = 0;
+    while i < words.len() {
+        if is_open(words[i]) {
+            sum = sum + rooms[i] as u32;
+        }
+        i = i + 1;
+    }
+    sum
 }

@@ -1,5 +1,6 @@
-// Replies matched to requests (document 02, T-06), on values: what a record says, which fence is next, and what a call
-// does to a table that it is not lent: `wall` stores the record. The last fence, one word, is kept here.
+// Replies matched to requests, and room for them (document 02, T-06 and T-08), on values: what a record says, which fence
+// is next, what is set aside, and what a call does to a table that it is not lent: `wall` stores the record and sends the
+// request. The state, two words, is kept here.
 mod asking;
 mod fence;
 mod judging;
@@ -9,7 +10,9 @@ pub mod refusal;
 mod state;
 
 pub use asking::Ask;
-pub use asking::open;
+pub use asking::Heard;
+pub use asking::ask_reply;
+pub use asking::ask_request;
 pub use asking::received;
 pub use asking::reply;
 pub use fence::FIRST_LAST;
@@ -17,10 +20,14 @@ pub use fence::age;
 pub use planning::Answer;
 pub use planning::Plan;
 pub use planning::plan_call;
+pub use planning::refuse;
 pub use record::RECORDS_MAX;
+pub use record::ROOM_MAX;
 pub use record::Record;
 pub use record::word_of;
+pub use state::State;
 pub use state::WALL_WORDS;
 pub use state::begin;
+pub use state::freed;
 pub use state::keep_last;
-pub use state::last_of;
+pub use state::state_of;

@@ -1,4 +1,5 @@
 pub mod Chains
 pub mod LookNeeds
+pub mod Opened
 pub mod Sent
 pub mod Taken

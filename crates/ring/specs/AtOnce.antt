@@ -26,6 +26,10 @@ pub record AtOnce : Type 0 where
 abbrev pub wholeEnd : WholeEnd → List ℕ → List ℕ → List ℕ → AtOnce
 wholeEnd r d b o = record { code = r .code; len = r .len; own = r .own; desc = d; buf = b; out = o }
 
+-- a message with these two dwords in the place of its own first two
+abbrev pub openedBy : ℕ → ℕ → List ℕ → List ℕ
+openedBy header word m = set (set m 0 header) 1 word
+
 -- a whole send: where the look accepts, the message lies from the own tail on, and TAIL past it
 unfoldable pub sendBy : ℕ → ℕ → List ℕ → List ℕ → List ℕ → AtOnce
 sendBy c own m d b =

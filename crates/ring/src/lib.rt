@@ -25,3 +25,4 @@ pub use receiving::whole_receive;
 pub use sending::WholeEnd;
 pub use sending::send_decision;
 pub use sending::whole_send;
+pub use sending::whole_send_as;

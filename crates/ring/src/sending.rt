@@ -9,7 +9,7 @@ ghost use lib.Dec.{eqb};
 ghost use lib.ListN.{length, set};
 ghost use Rattle.ring.specs.Ring.{TAIL};
 ghost use Rattle.ring.specs.Numbers.{marked, numberAt, sendDecision};
-ghost use Rattle.ring.specs.AtOnce.{wholeEnd, wholeSend};
+ghost use Rattle.ring.specs.AtOnce.{openedBy, wholeEnd, wholeSend};
 ghost use Rattle.ring.specs.Private.{PlacedBy};
 use crate::descriptor::HEAD;
 use crate::descriptor::STATUS;
@@ -55,15 +55,23 @@ pub fn send_decision(
     numbers::send_look_needs(n, own, len, status, head, tail)
 }
 
-// A whole send but for its end: decides, and stores the message where it is accepted. The descriptor is lent to be
-// read: while the message is stored nobody can publish.
-fn place_message(fits: bool, own: usize, desc: &[u32], buf: &mut [u32], msg: &[u32]) -> WholeEnd
+// A whole send but for its end: decides, and stores the message where it is accepted. Of the message only the length
+// and the dwords behind the second are read. The descriptor is lent to be read: while the message is stored nobody can
+// publish.
+fn place_message(
+    fits: bool,
+    own: usize,
+    desc: &[u32],
+    buf: &mut [u32],
+    header: u32,
+    word: u32,
+    msg: &[u32],
+) -> WholeEnd
     ensures { λ r.
-        ⌜ PlacedBy r (numberAt fits own (now (msg .entry)) (now (desc .entry)) (length (now (buf .entry))))
-        own (now (msg .entry)) (now (buf .entry)) (now (buf .exit)) ⌝ }
+        ⌜ PlacedBy r
+        (numberAt fits own (openedBy header word (now (msg .entry))) (now (desc .entry)) (length (now (buf .entry))))
+        own (openedBy header word (now (msg .entry))) (now (buf .entry)) (now (buf .exit)) ⌝ }
 {
-    let header = dword_at(msg, 0);
-    let word = dword_at(msg, 1);
     let code = send_decision(fits, own, desc, buf.len(), msg.len(), header, word);
     if code != 0 {
         return WholeEnd {
@@ -95,8 +103,28 @@ fn end_send(desc: &mut [u32], end: WholeEnd)
     memory::mark(desc, end.code);
 }
 
-// A whole send: with whether the sender's state fits as idle, and its own tail. What ends it needs what placing the
-// message answered, so TAIL comes last.
+// A whole send of a message with these two dwords in the place of its own: what a caller has judged of them is what is
+// sent. With whether the sender's state fits as idle, and its own tail. What ends it needs what placing the message
+// answered, so TAIL comes last.
+pub fn whole_send_as(
+    fits: bool,
+    own: usize,
+    desc: &mut [u32],
+    buf: &mut [u32],
+    header: u32,
+    word: u32,
+    msg: &[u32],
+) -> WholeEnd
+    ensures { λ r.
+        ⌜ wholeEnd r (now (desc .exit)) (now (buf .exit)) []
+        ≡ wholeSend fits own (openedBy header word (now (msg .entry))) (now (desc .entry)) (now (buf .entry)) ⌝ }
+{
+    let end = place_message(fits, own, &desc[..], buf, header, word, msg);
+    end_send(desc, end);
+    end
+}
+
+// A whole send: the message's first two dwords are read here, and nowhere else.
 pub fn whole_send(
     fits: bool,
     own: usize,
@@ -108,7 +136,7 @@ pub fn whole_send(
         ⌜ wholeEnd r (now (desc .exit)) (now (buf .exit)) []
         ≡ wholeSend fits own (now (msg .entry)) (now (desc .entry)) (now (buf .entry)) ⌝ }
 {
-    let end = place_message(fits, own, &desc[..], buf, msg);
-    end_send(desc, end);
-    end
+    let header = dword_at(msg, 0);
+    let word = dword_at(msg, 1);
+    whole_send_as(fits, own, desc, buf, header, word, msg)
 }

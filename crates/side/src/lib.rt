@@ -13,6 +13,7 @@ pub use receiving::receive_copy_all;
 pub use receiving::receive_look;
 pub use receiving::receive_publish;
 pub use sending::send;
+pub use sending::send_as;
 pub use sending::send_look;
 pub use sending::send_publish;
 pub use sending::send_store;

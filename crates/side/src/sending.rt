@@ -4,6 +4,7 @@ ghost use mathlib.Core.List.{List, []};
 ghost use Prim.Native.Nat.{ℕ, _+_, _-_, _≤_, _<_};
 ghost use lib.ListN.{length, getD, take, drop};
 ghost use Rattle.runs.specs.Buffer.{stored};
+ghost use Rattle.ring.specs.AtOnce.{openedBy};
 ghost use Rattle.channel.specs.Send;
 ghost use Rattle.side.specs.Words.{stateOf, inWords};
 use crate::words;
@@ -12,18 +13,37 @@ use channel::sending_number;
 use message::dword_at;
 use runs::past;
 
-// A whole send.
-pub fn send(w: &mut [u32; STATE_WORDS], desc: &mut [u32], buf: &mut [u32], msg: &[u32]) -> u32
+// A whole send of a message with these two dwords in the place of its own: a caller who has read and judged them, or
+// given the header another fence, sends what was judged.
+pub fn send_as(
+    w: &mut [u32; STATE_WORDS],
+    desc: &mut [u32],
+    buf: &mut [u32],
+    header: u32,
+    word: u32,
+    msg: &[u32],
+) -> u32
     ensures { λ r. ⌜ inWords r 0 (now (w .exit)) (now (desc .exit)) (now (buf .exit)) []
-        ≡ Send.whole (stateOf (now (w .entry))) (now (msg .entry)) (now (desc .entry)) (now (buf .entry)) ⌝ }
+        ≡ Send.whole (stateOf (now (w .entry))) (openedBy header word (now (msg .entry))) (now (desc .entry))
+        (now (buf .entry)) ⌝ }
 {
     let s = words::counts_of(&w[..]);
     let fits = words::is_idle(&w[..], s, buf.len());
-    let end = ring::whole_send(fits, s.own, desc, buf, msg);
+    let end = ring::whole_send_as(fits, s.own, desc, buf, header, word, msg);
     if end.code == 0 {
         w[words::OWN] = end.own as u32;
     }
     end.code
+}
+
+// A whole send: the message's first two dwords are read here, and nowhere else.
+pub fn send(w: &mut [u32; STATE_WORDS], desc: &mut [u32], buf: &mut [u32], msg: &[u32]) -> u32
+    ensures { λ r. ⌜ inWords r 0 (now (w .exit)) (now (desc .exit)) (now (buf .exit)) []
+        ≡ Send.whole (stateOf (now (w .entry))) (now (msg .entry)) (now (desc .entry)) (now (buf .entry)) ⌝ }
+{
+    let header = dword_at(msg, 0);
+    let word = dword_at(msg, 1);
+    send_as(w, desc, buf, header, word, msg)
 }
 
 // Judges a message and the descriptor, and takes a copy of the message. Its first two dwords are read once: those that

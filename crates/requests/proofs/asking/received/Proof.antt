@@ -7,7 +7,7 @@ use borrow.Author.Needs.{needs}
 use Rattle.message.specs.Packing.{Answer, refusing, ofUnpacked}
 use Rattle.message.specs.declared.Message.{Message}
 use Rattle.message.specs.declared.Unpacked.the-variants.{Malformed, Decoded}
-use Rattle.requests.specs.Calls.{asksReply}
+use Rattle.requests.specs.Calls.{heardOf}
 use Rattle.requests.proofs.asking.received.Statement.{statement}
 use Rattle.requests.proofs.asking.received.Tie as tie
 
@@ -23,13 +23,13 @@ some-left none m e = absurd (omega (arith, ap (λ (a : Answer Message). a .numbe
 some-left (some x) m e = sym (ap (λ (a : Answer Message). a .value) e)
 
 returns : tie.Need-returns
-unfolding asksReply
+unfolding heardOf
 returns c =
     let told = ap ofUnpacked (c .enum-told .given .1) in
     rw (none-left _ (sym told ∙ c .before .before .unpack .ensures))
 
 returns-2 : tie.Need-returns-2
-unfolding asksReply
+unfolding heardOf
 returns-2 c =
     let told = ap ofUnpacked (c .before .before .m .given .1) in
     c .reply .ensures ∙ rw (some-left _ _ (sym told ∙ c .before .before .before .before .unpack .ensures))

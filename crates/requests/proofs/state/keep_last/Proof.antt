@@ -1,6 +1,6 @@
--- `state::keep_last` meets its contract: the state has one word. Assumes nothing.
+-- `state::keep_last` meets its contract: the first word is written, the second stays. Assumes nothing.
 use native.Mathlib.Omega.{arith}
-use lib.Seq.{getD-set-same}
+use lib.Seq.{getD-set-same, getD-set-other}
 use denote.Ref.{now}
 use borrow.Author.Needs.{needs}
 use borrow.Author.Tests.{ne-eqb, eq-eqb}
@@ -12,7 +12,11 @@ returns : tie.Need-returns
 unfolding lastKept
 returns c =
     let a = c .before .before .args in
-    simp (ne-eqb (a .was) (a .last) (c .before .if1 .taken), getD-set-same (now (a .wall)) 0 (a .last) 0 (omega arith))
+    simp (
+      ne-eqb (a .was) (a .last) (c .before .if1 .taken),
+      getD-set-same (now (a .wall)) 0 (a .last) 0 (omega arith),
+      getD-set-other (now (a .wall)) 0 1 (a .last) 0 (omega arith),
+    )
 
 returns-2 : tie.Need-returns-2
 unfolding lastKept

@@ -1,28 +1,24 @@
--- `sending::whole_send` meets its contract: the message is placed, and then the send is ended. Assumes nothing.
-use mathlib.Core.Path.{sym, _∙_}
-use native.Mathlib.Omega.{arith}
+-- `sending::whole_send` meets its contract: a message with its own two dwords is that message. Assumes nothing.
 use denote.Ref.{now}
 use borrow.Author.Needs.{needs}
-use Rattle.ring.proofs.Sent.{whole-placed}
+use Rattle.ring.proofs.Opened.{opened-own}
 use Rattle.ring.proofs.sending.whole_send.Statement.{statement}
 use Rattle.ring.proofs.sending.whole_send.Tie as tie
 
-end-send-requires : tie.Need-end-send-requires
-end-send-requires c κs e = let p = c .before .before .before .place-message .ensures in omega (arith, p .small (sym (p .code) ∙ e))
-
 returns : tie.Need-returns
 returns c =
-    let done = c .before .before .before .before .before .before in
-    let a = done .before .before .before .before .before .before .args in
-    whole-placed (a .fits) (a .own) (now (a .msg)) (now (a .desc)) (now (a .buf)) _ _ _
-    (done .place-message .ensures) (c .before .before .end-send .ensures)
+    let q = c .before .before .before .before in
+    let second = q .before .before .before in
+    let m = now (second .before .before .before .before .before .args .msg) in
+    rw (second .dword-at2 .ensures, second .before .dword-at .ensures, opened-own m) at (q .whole-send-as .ensures)
 
 pub whole-send-spec : {M : Type 1} → statement M
 whole-send-spec =
     tie.close
     (tie.spec
     (λ c κs. search needs)
-    end-send-requires
+    (λ c κs. search needs)
+    (λ c κs. search needs)
     (λ c. search needs)
     (λ c. search needs)
     returns)
