@@ -2,9 +2,13 @@ pub mod Maps
 pub mod Tables
 pub mod Sets
 pub mod Once
-pub mod Unusable
 pub mod Fences
 pub mod Openings
 pub mod Replies
+pub mod Unusable
 pub mod Steps
+pub mod Order
+pub mod Histories
 pub mod Theorem
+pub mod Mixing
+pub mod Rooms

@@ -1,4 +1,5 @@
--- Laws of the plain map: what a put leaves, and how many fences are open before and after it. Assumes nothing.
+-- Laws of the plain map: what a put leaves, and how many fences are open and how much is set aside before and after it.
+-- Assumes nothing.
 use Prim.Native.Nat.{ℕ, zero, suc, _+_, _≤_, _<_}
 use mathlib.Core.Path.{_≡_, refl, sym, _∙_}
 use mathlib.Core.Bool.{true, cond}
@@ -7,7 +8,7 @@ use native.Mathlib.Omega.{arith}
 use borrow.Author.Tests.{eqb-true, eqb-false, eq-eqb, ne-eqb}
 use lib.Dec.{eqb}
 use Rattle.message.proofs.Tests.{cases}
-use Rattle.matching.specs.Map.{Entry, Map, empty, there, isOpenIn, put, openBelow}
+use Rattle.matching.specs.Map.{Entry, Map, empty, there, isOpenIn, put, openBelow, roomOf, asideBelow}
 
 -- equality of numbers, tested the other way round
 pub eqb-sym : (a b : ℕ) → eqb a b ≡ eqb b a
@@ -60,4 +61,31 @@ below-put (suc n) m f e h =
     (λ t.
     let q : n ≡ f → ⊥ = eqb-false n f t in
     let i = below-put n m f e (omega arith) in
+    rw (put-other m f e n q) (omega arith))
+
+-- ---- how much is set aside
+
+pub aside-empty : (n : ℕ) → asideBelow n empty ≡ 0
+unfolding asideBelow
+aside-empty zero = refl
+aside-empty (suc n) = rw (aside-empty n)
+
+aside-past : (n : ℕ) (m : Map) (f : ℕ) (e : Option Entry) → n ≤ f → asideBelow n (put m f e) ≡ asideBelow n m
+unfolding asideBelow
+aside-past zero m f e h = refl
+aside-past (suc n) m f e h = rw (put-other m f e n (λ q. omega arith), aside-past n m f e (omega arith))
+
+pub aside-put :
+    (n : ℕ) (m : Map) (f : ℕ) (e : Option Entry) → f < n
+    → asideBelow n (put m f e) + roomOf (m f) ≡ asideBelow n m + roomOf e
+unfolding asideBelow
+aside-put zero m f e h = absurd (omega arith)
+aside-put (suc n) m f e h =
+    cases (eqb n f)
+    (λ t.
+    let q : n ≡ f = eqb-true n f t in
+    rw (q, put-same m f e, aside-past f m f e (omega arith)) (omega arith))
+    (λ t.
+    let q : n ≡ f → ⊥ = eqb-false n f t in
+    let i = aside-put n m f e (omega arith) in
     rw (put-other m f e n q) (omega arith))

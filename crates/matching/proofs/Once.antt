@@ -13,12 +13,12 @@ use lib.Dec.{leb, ltb}
 use Rattle.message.proofs.Tests.{and-l, and-r, cases}
 use Rattle.ring.proofs.Chains.{true-false}
 use Rattle.requests.specs.declared.record.Record.{Record}
-use Rattle.requests.specs.Table.{isOpen, hasFence, stillOpen, fenceTwice, allowedLength, usable, placeOf}
-use Rattle.matching.specs.Map.{isOpenIn, put, openBelow}
+use Rattle.requests.specs.Table.{isOpen, hasFence, stillOpen, fenceTwice, allowedLength, usable, placeOf, setAside}
+use Rattle.matching.specs.Map.{isOpenIn, put, openBelow, roomOf, asideBelow}
 use Rattle.matching.specs.Matching.{at, entryIn, openRecords, OneFenceTwice, Taken}
-use Rattle.matching.proofs.Maps.{eqb-sym, below-put, below-empty}
+use Rattle.matching.proofs.Maps.{eqb-sym, below-put, below-empty, aside-put, aside-empty}
 use Rattle.matching.proofs.Tables.{entryOf, or-l, or-r, has-open, has-fence, has-closed, free-closed}
-use Rattle.matching.proofs.Tables.{still-there, still-at, open-inside, place-inside, place-has}
+use Rattle.matching.proofs.Tables.{still-there, still-at, open-inside, closed-none, place-inside, place-has}
 
 -- ---- the test
 
@@ -157,3 +157,21 @@ as-many-below n (r ∷ t) w l =
     let q = ap (openBelow n) (fun-ext (first-entry r t e)) in
     rw e (omega arith))
     (λ e. let q = ap (openBelow n) (fun-ext (later-entry r t e)) in rw e (omega arith))
+
+-- ---- and they set aside as much
+
+pub as-aside-below :
+    (n : ℕ) (t : List Record) → fenceTwice t ≡ false → ((i : ℕ) → at t i .fence < n)
+    → setAside t ≡ asideBelow n (entryIn t)
+unfolding fenceTwice setAside entryIn
+as-aside-below n [] w l = sym (aside-empty n)
+as-aside-below n (r ∷ t) w l =
+    let i = as-aside-below n t (or-r (isOpen r && stillOpen t (r .fence)) _ w) (λ k. l (suc k)) in
+    cases (isOpen r)
+    (λ e.
+    let s : stillOpen t (r .fence) ≡ false = rw e at (or-l (isOpen r && stillOpen t (r .fence)) _ w) in
+    let c : roomOf (entryIn t (r .fence)) ≡ 0 = rw (closed-none t (r .fence) s) in
+    let p = aside-put n (entryIn t) (r .fence) (some (entryOf r)) (l 0) in
+    let q = ap (asideBelow n) (fun-ext (first-entry r t e)) in
+    rw e (omega arith))
+    (λ e. let q = ap (asideBelow n) (fun-ext (later-entry r t e)) in rw e (omega arith))

@@ -11,13 +11,14 @@ use Rattle.message.specs.declared.Body.{Body}
 use Rattle.message.specs.declared.Body.the-variants.{Request, Event, FastRequest, Busy, Retry, Failure, Success}
 use Rattle.message.specs.declared.Message.{Message}
 use Rattle.message.proofs.Tests.{and-false, and-i, cases}
+use Rattle.ring.specs.Ring.{allowed}
 use Rattle.ring.specs.Numbers.{need}
 use Rattle.requests.specs.declared.record.Record.{Record}
+use Rattle.requests.specs.declared.asking.Heard.{Heard}
 use Rattle.requests.specs.Table.{freeRecord, isOpen, hasFence, stillOpen, placeOf}
-use Rattle.requests.specs.Calls.{refused, isReply, replyNumber, replyBy, replying, replyAt, reply}
-use Rattle.requests.specs.Calls.{counted, countAfter, recordAfter, answerOf}
-use Rattle.matching.specs.Map.{Entry, Plain, refusedBy, busier, plainAnswer, plainHear, plainFind, plainReply}
-use Rattle.matching.specs.Lists.{wall}
+use Rattle.requests.specs.Calls.{Wall, refused, wallNeeds, isReply, replyNumber, replyBy, replying, replyAt}
+use Rattle.requests.specs.Calls.{heardOf, reply, counted, countAfter, recordAfter, answerOf}
+use Rattle.matching.specs.Map.{Entry, Plain, refusedBy, busier, plainAnswer, plainHear, plainFind, plainHeard, plainReply}
 use Rattle.matching.specs.Matching.{at, Good, entryIn, plainOf}
 use Rattle.matching.proofs.Tables.{entryOf, has-fence, has-other, has-closed, free-closed}
 use Rattle.matching.proofs.Tables.{closed-none, place-inside, place-has, place-entry}
@@ -35,11 +36,11 @@ counted-busier n =
     (λ e. rw (e, lt-leb 65535 n (ltb-true n 65535 e)))
     (λ e. rw (e, le-leb 65535 n (ltb-false n 65535 e)))
 
-free-entry : (f : ℕ) → entryIn (freeRecord ∷ []) f ≡ none
+pub free-entry : (f : ℕ) → entryIn (freeRecord ∷ []) f ≡ none
 unfolding entryIn
 free-entry f = rw (has-closed f freeRecord free-closed)
 
-busy-entry : (f : ℕ) (r : Record) → hasFence f r ≡ true → entryIn (recordAfter 3 r ∷ []) f ≡ some (busier (entryOf r))
+pub busy-entry : (f : ℕ) (r : Record) → hasFence f r ≡ true → entryIn (recordAfter 3 r ∷ []) f ≡ some (busier (entryOf r))
 unfolding entryIn recordAfter busier hasFence isOpen
 busy-entry f r h = rw (h, counted-busier (r .count))
 
@@ -48,7 +49,14 @@ after-other : (kind g : ℕ) (r : Record) → hasFence g r ≡ false → hasFenc
 unfolding recordAfter hasFence isOpen
 after-other kind g r h = cases (eqb kind 3) (λ e. rw e h) (λ e. rw e)
 
-module _ (t : List Record) (g : Good t) (last f : ℕ) where
+-- what is heard of a message that unpacks
+abbrev pub heardAs : ℕ → ℕ → Heard
+heardAs kind f = record { code = 0; kind = kind; fence = f }
+
+module _ (w : Wall) (g : Good (w .table)) (f : ℕ) where
+  abbrev t : List Record
+  t = w .table
+
   -- the record that a reply with this fence answers
   abbrev pub answered : Record
   answered = at t (placeOf f t)
@@ -67,83 +75,96 @@ module _ (t : List Record) (g : Good t) (last f : ℕ) where
 
   -- ---- what is answered
 
-  pub reply-malformed : reply t last none ≡ refused 4 t last
-  unfolding reply replyBy replyNumber need
-  reply-malformed = rw (is-usable t g)
+  pub reply-buffer : (h : Heard) → allowed (w .n) ≡ false → replying w h ≡ refused 2 w
+  unfolding replyBy replyNumber wallNeeds need
+  reply-buffer h a = rw (is-usable w g, a)
 
-  pub reply-no : (kind : ℕ) → (stillOpen t f && isReply kind) ≡ false → replying t last 0 kind f ≡ refused 27 t last
-  unfolding replyBy replyNumber need
-  reply-no kind e = rw (is-usable t g, e)
+  module _ (a : allowed (w .n) ≡ true) where
+    pub reply-malformed : reply w none ≡ refused 4 w
+    unfolding heardOf replyBy replyNumber wallNeeds need
+    reply-malformed = rw (is-usable w g, a)
 
-  pub reply-yes :
-      (kind : ℕ) → (stillOpen t f && isReply kind) ≡ true → replying t last 0 kind f ≡ replyAt (placeOf f t) kind t last
-  unfolding replyBy replyNumber need
-  reply-yes kind e = rw (is-usable t g, e)
+    pub reply-no : (kind : ℕ) → (stillOpen t f && isReply kind) ≡ false → replying w (heardAs kind f) ≡ refused 27 w
+    unfolding replyBy replyNumber wallNeeds need
+    reply-no kind e = rw (is-usable w g, a, e)
+
+    pub reply-yes :
+        (kind : ℕ) → (stillOpen t f && isReply kind) ≡ true → replying w (heardAs kind f) ≡ replyAt (placeOf f t) kind w
+    unfolding replyBy replyNumber wallNeeds need
+    reply-yes kind e = rw (is-usable w g, a, e)
 
   -- ---- on the map
 
   abbrev map : Plain
-  map = plainOf (wall t last)
+  map = plainOf w
 
   closing-same :
       (kind : ℕ) → eqb kind 3 ≡ false → stillOpen t f ≡ true
-      → plainAnswer map f kind (entryOf answered) none ≡ asPlain (replyAt (placeOf f t) kind t last)
+      → plainAnswer map f kind (entryOf answered) none ≡ asPlain (replyAt (placeOf f t) kind w)
   unfolding replyAt answerOf countAfter recordAfter
   closing-same kind e s =
       let u : Stores t (placeOf f t) freeRecord f = rw e at (reply-stores kind s) in
-      rw e (ap (gives _) (stored-map t last (placeOf f t) freeRecord f none last u (free-entry f)))
+      rw e (ap (gives _) (stored-map w (placeOf f t) freeRecord f none (w .last) u (free-entry f)))
 
   busy-same :
       stillOpen t f ≡ true
       → plainAnswer map f 3 (busier (entryOf answered)) (some (busier (entryOf answered)))
-      ≡ asPlain (replyAt (placeOf f t) 3 t last)
+      ≡ asPlain (replyAt (placeOf f t) 3 w)
   unfolding replyAt answerOf countAfter busier
   busy-same s =
       let u = busy-entry f answered (place-has t f s) in
       λ i. record {
         answer = record { code = 0; kind = 3; fence = 0; action = answered .action; count = counted-busier (answered .count) i };
-        next = stored-map t last (placeOf f t) (recordAfter 3 answered) f _ last (reply-stores 3 s) u i;
+        next = stored-map w (placeOf f t) (recordAfter 3 answered) f _ (w .last) (reply-stores 3 s) u i;
       }
 
-  -- a message of a type that is no reply
-  unheard-at :
-      (b : Body) → ((e : Entry) → plainHear map f b e ≡ refusedBy 27 map) → (o : Option Entry)
-      → plainFind map f b o ≡ refusedBy 27 map
-  unfolding plainFind
-  unheard-at b h none = refl
-  unheard-at b h (some e) = h e
+  module _ (a : allowed (w .n) ≡ true) where
+    -- a message of a type that is no reply
+    unheard-at :
+        (b : Body) → ((e : Entry) → plainHear map f b e ≡ refusedBy 27 map) → (o : Option Entry)
+        → plainFind map f b o ≡ refusedBy 27 map
+    unfolding plainFind
+    unheard-at b h none = refl
+    unheard-at b h (some e) = h e
 
-  unheard :
-      (b : Body) → isReply (typeOf b) ≡ false → ((e : Entry) → plainHear map f b e ≡ refusedBy 27 map)
-      → plainFind map f b (entryIn t f) ≡ asPlain (replying t last 0 (typeOf b) f)
-  unfolding refused
-  unheard b n h =
-      rw (unheard-at b h (entryIn t f), reply-no (typeOf b) (rw n (and-false (stillOpen t f))))
+    unheard :
+        (b : Body) → isReply (typeOf b) ≡ false → ((e : Entry) → plainHear map f b e ≡ refusedBy 27 map)
+        → plainFind map f b (entryIn t f) ≡ asPlain (replying w (heardAs (typeOf b) f))
+    unfolding refused
+    unheard b n h =
+        rw (unheard-at b h (entryIn t f), reply-no a (typeOf b) (rw n (and-false (stillOpen t f))))
 
-  -- and of one that is
-  heard :
-      (b : Body) → isReply (typeOf b) ≡ true
-      → (stillOpen t f ≡ true → plainHear map f b (entryOf answered) ≡ asPlain (replyAt (placeOf f t) (typeOf b) t last))
-      → plainFind map f b (entryIn t f) ≡ asPlain (replying t last 0 (typeOf b) f)
-  unfolding plainFind refused
-  heard b y h =
-      cases (stillOpen t f)
-      (λ s. rw (place-entry t f s, reply-yes (typeOf b) (and-i _ _ s y)) (h s))
-      (λ s. rw (closed-none t f s, reply-no (typeOf b) (rw s)))
+    -- and of one that is
+    heard :
+        (b : Body) → isReply (typeOf b) ≡ true
+        → (stillOpen t f ≡ true → plainHear map f b (entryOf answered) ≡ asPlain (replyAt (placeOf f t) (typeOf b) w))
+        → plainFind map f b (entryIn t f) ≡ asPlain (replying w (heardAs (typeOf b) f))
+    unfolding plainFind refused
+    heard b y h =
+        cases (stillOpen t f)
+        (λ s. rw (place-entry t f s, reply-yes a (typeOf b) (and-i _ _ s y)) (h s))
+        (λ s. rw (closed-none t f s, reply-no a (typeOf b) (rw s)))
 
-  body-same : (b : Body) → plainFind map f b (entryIn t f) ≡ asPlain (replying t last 0 (typeOf b) f)
-  unfolding typeOf isReply plainHear
-  body-same (Request d a) = unheard (Request d a) refl (λ e. refl)
-  body-same (Event d a) = unheard (Event d a) refl (λ e. refl)
-  body-same (FastRequest d a) = unheard (FastRequest d a) refl (λ e. refl)
-  body-same (Busy c) = heard (Busy c) refl busy-same
-  body-same (Retry r) = heard (Retry r) refl (closing-same 5 refl)
-  body-same (Failure h n) = heard (Failure h n) refl (closing-same 6 refl)
-  body-same (Success d) = heard (Success d) refl (closing-same 7 refl)
+    pub body-same : (b : Body) → plainFind map f b (entryIn t f) ≡ asPlain (replying w (heardAs (typeOf b) f))
+    unfolding typeOf isReply plainHear
+    body-same (Request d k) = unheard (Request d k) refl (λ e. refl)
+    body-same (Event d k) = unheard (Event d k) refl (λ e. refl)
+    body-same (FastRequest d k) = unheard (FastRequest d k) refl (λ e. refl)
+    body-same (Busy c) = heard (Busy c) refl busy-same
+    body-same (Retry r) = heard (Retry r) refl (closing-same 5 refl)
+    body-same (Failure h n) = heard (Failure h n) refl (closing-same 6 refl)
+    body-same (Success d) = heard (Success d) refl (closing-same 7 refl)
 
-pub reply-same :
-    (t : List Record) → Good t → (last : ℕ) (received : Option Message)
-    → plainReply (plainOf (wall t last)) received ≡ asPlain (reply t last received)
-unfolding plainReply refused
-reply-same t g last none = rw (reply-malformed t g last 0)
-reply-same t g last (some m) = unfold reply in body-same t g last (m .fence) (m .body)
+module _ (w : Wall) (g : Good (w .table)) where
+  heard-same :
+      allowed (w .n) ≡ true → (received : Option Message) → plainHeard (plainOf w) received ≡ asPlain (reply w received)
+  unfolding plainHeard refused heardOf
+  heard-same a none = rw (reply-malformed w g 0 a)
+  heard-same a (some m) = body-same w g (m .fence) a (m .body)
+
+  pub reply-same : (received : Option Message) → plainReply (plainOf w) received ≡ asPlain (reply w received)
+  unfolding plainReply refused
+  reply-same received =
+      cases (allowed (w .n))
+      (λ a. rw a (heard-same a received))
+      (λ a. rw (a, reply-buffer w g 0 (heardOf received) a))

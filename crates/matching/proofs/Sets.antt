@@ -13,7 +13,7 @@ use lib.Dec.{eqb}
 use Rattle.message.proofs.Tests.{cases}
 use Rattle.ring.proofs.Chains.{true-false}
 use Rattle.requests.specs.declared.record.Record.{Record}
-use Rattle.requests.specs.Table.{freeRecord, isOpen, hasFence}
+use Rattle.requests.specs.Table.{freeRecord, isOpen, hasFence, setAside}
 use Rattle.matching.specs.Map.{put}
 use Rattle.matching.specs.Matching.{at, entryIn, openRecords, OneFenceTwice}
 use Rattle.matching.proofs.Maps.{put-same, put-other}
@@ -38,6 +38,18 @@ open-set [] i r h = absurd (omega arith)
 open-set (x ∷ t) zero r h = omega arith
 open-set (x ∷ t) (suc i) r h = let e = open-set t i r (omega arith) in omega arith
 
+-- and so does what is set aside
+abbrev pub asideIn : Record → ℕ
+asideIn r = cond (isOpen r) (r .room) 0
+
+pub aside-set :
+    (t : List Record) (i : ℕ) (r : Record) → i < length t
+    → setAside (set t i r) + asideIn (at t i) ≡ setAside t + asideIn r
+unfolding setAside
+aside-set [] i r h = absurd (omega arith)
+aside-set (x ∷ t) zero r h = omega arith
+aside-set (x ∷ t) (suc i) r h = let e = aside-set t i r (omega arith) in omega arith
+
 -- ---- what each fence has
 
 -- another fence than both records' has what it had
@@ -50,7 +62,7 @@ entry-other (x ∷ t) zero r g p q = rw (p, q)
 entry-other (x ∷ t) (suc i) r g p q =
     cases (hasFence g x) (λ e. rw e) (λ e. rw e (entry-other t i r g p q))
 
-entry-none : (t : List Record) (f : ℕ) → ((k : ℕ) → hasFence f (at t k) ≡ false) → entryIn t f ≡ none
+pub entry-none : (t : List Record) (f : ℕ) → ((k : ℕ) → hasFence f (at t k) ≡ false) → entryIn t f ≡ none
 unfolding entryIn
 entry-none [] f h = refl
 entry-none (x ∷ t) f h = rw (h 0) (entry-none t f (λ k. h (suc k)))

@@ -11,13 +11,13 @@ use lib.Dec.{ltb, leb·suc-suc}
 use Rattle.message.proofs.Tests.{and-l, and-r, and-i, and-false, cases}
 use Rattle.ring.proofs.Chains.{true-false}
 use Rattle.requests.specs.declared.record.Record.{Record}
-use Rattle.requests.specs.Table.{freeRecord, isOpen, hasFence, stillOpen, lowestFree, placeOf}
+use Rattle.requests.specs.Table.{freeRecord, isOpen, hasFence, stillOpen, lowestFree, placeOf, setAside}
 use Rattle.matching.specs.Map.{Entry, there, isOpenIn}
 use Rattle.matching.specs.Matching.{at, entryIn, openRecords}
 
 -- the request of a record
 abbrev pub entryOf : Record → Entry
-entryOf r = record { action = r .action; count = r .count }
+entryOf r = record { action = r .action; count = r .count; room = r .room }
 
 -- ---- tests
 
@@ -145,6 +145,13 @@ none-open (r ∷ t) e zero =
     cases (isOpen r) (λ h. let q : 1 + openRecords t ≡ 0 = rw h at e in absurd (omega arith)) (λ h. h)
 none-open (r ∷ t) e (suc k) = none-open t (omega arith) k
 
+pub none-aside : (t : List Record) → openRecords t ≡ 0 → setAside t ≡ 0
+unfolding openRecords setAside
+none-aside [] e = refl
+none-aside (r ∷ t) e =
+    let i = none-aside t (omega arith) in
+    rw (none-open (r ∷ t) (unfold openRecords in e) 0) (omega arith)
+
 -- a record is free exactly where fewer are open than there are
 pub room : (t : List Record) → ltb (lowestFree t) (length t) ≡ ltb (openRecords t) (length t)
 unfolding lowestFree openRecords
@@ -169,6 +176,11 @@ pub fresh-open : (n : ℕ) → openRecords (replicate n freeRecord) ≡ 0
 unfolding openRecords isOpen
 fresh-open zero = refl
 fresh-open (suc n) = rw (fresh-open n)
+
+pub fresh-aside : (n : ℕ) → setAside (replicate n freeRecord) ≡ 0
+unfolding setAside isOpen
+fresh-aside zero = refl
+fresh-aside (suc n) = rw (fresh-aside n)
 
 pub fresh-at : (n k : ℕ) → at (replicate n freeRecord) k ≡ freeRecord
 fresh-at zero k = refl

@@ -1,72 +1,70 @@
 -- A wall does what a plain map from fences to requests does, over every list of calls; with what follows. Assumes
 -- nothing.
-use Prim.Native.Nat.{ℕ, _+_, _≤_, _<_}
+use Prim.Native.Nat.{ℕ, _+_, _≤_}
 use mathlib.Core.Path.{_≡_, refl, sym, ap, fun-ext, _∙_}
-use mathlib.Core.Logic.{_↔_}
 use mathlib.Core.Bool.{true}
 use mathlib.Core.List.{List, [], _∷_}
-use mathlib.Core.Option.{Option, none, some}
+use mathlib.Core.Option.{some}
 use native.Mathlib.Omega.{arith}
-use borrow.Author.Tests.{ltb-true, ltb-false, le-leb}
+use borrow.Author.Tests.{eq-eqb, le-leb}
 use lib.ListN.{length, replicate, length-replicate}
 use lib.Seq.{ext-getD}
-use lib.Dec.{ltb}
-use Rattle.message.specs.declared.Message.{Message}
-use Rattle.message.proofs.Tests.{cases}
+use Rattle.ring.specs.Ring.{allowed}
 use Rattle.ring.specs.Numbers.{need}
 use Rattle.ring.proofs.Chains.{true-false}
 use Rattle.requests.specs.declared.record.Record.{Record}
 use Rattle.requests.specs.declared.planning.Answer.{Answer}
-use Rattle.requests.specs.Table.{freeRecord, isOpen, stillOpen, allowedLength, lowestFree}
-use Rattle.requests.specs.Calls.{numberAlone, refused, freshNumber, freshBy, fresh, reply, asksOpening, asksReply, calling}
-use Rattle.matching.specs.Map.{Plain, freshPlain, howMany, picked}
-use Rattle.matching.specs.Lists.{Call, openCall, replyCall, Wall, wall, left, outcome, run, end, plainRun, plainEnd}
-use Rattle.matching.specs.Lists.{openings, closings}
-use Rattle.matching.specs.Matching.{at, Good, entryIn, openRecords, plainOf, AsMap, Next, Follows}
-use Rattle.matching.specs.Matching.{FromFresh, FreshWall, WallIsMap}
-use Rattle.matching.proofs.Tables.{still-there, open-most, room, free-closed, none-open, fresh-none, fresh-open, fresh-at}
+use Rattle.requests.specs.Table.{freeRecord, isOpen, stillOpen, allowedLength}
+use Rattle.requests.specs.Calls.{Wall, Outcome, numberAlone, refused, freshNumber, freshBy, fresh}
+use Rattle.matching.specs.Map.{Plain, freshPlain, howMany, asideOf, picked}
+use Rattle.matching.specs.Lists.{Call, openCall, replyCall, outcome, run, end, plainRun, plainEnd, openings, closings}
+use Rattle.matching.specs.Matching.{Good, entryIn, openRecords, plainOf, AsMap, Next, Follows}
+use Rattle.matching.specs.Matching.{FromFresh, ByHistory, madeFresh, FreshWall, WallIsMap}
+use Rattle.matching.proofs.Tables.{still-there, free-closed, none-open, fresh-none, fresh-open, fresh-aside, fresh-at}
+use Rattle.matching.proofs.Tables.{has-closed, none-aside}
+use Rattle.matching.proofs.Sets.{entry-none}
 use Rattle.matching.proofs.Fences.{passes, picked-skips}
-use Rattle.matching.proofs.Openings.{as-many-open, fence-picked, fence-closed, open-full, open-room}
-use Rattle.matching.proofs.Steps.{Zeros, did, did-good, did-size, did-zeros, did-count, did-other, step-same}
+use Rattle.matching.proofs.Openings.{as-many-open, as-aside, fence-picked, fence-closed}
+use Rattle.matching.proofs.Steps.{Zeros, Did, refuses, opens, did, did-size, did-zeros, did-count, did-other, step-same}
 use Rattle.matching.proofs.Steps.{did-open, did-answer}
-use Rattle.matching.proofs.Unusable.{bad-table, bad-length, refused-leaves, free-is-0}
+use Rattle.matching.proofs.Unusable.{bad-table, bad-buffer, good-buffer, fresh-length, fresh-buffer, refused-leaves}
+use Rattle.matching.proofs.Unusable.{free-is-0}
+use Rattle.matching.proofs.Order.{in-order}
+use Rattle.matching.proofs.Histories.{after-good, by-history}
 
 -- ---- lists
 
 -- the wall after a call
 abbrev then : Wall → Call → Wall
-then w c = left (outcome w c)
+then w c = outcome w c .wall
 
-then-good : (w : Wall) → Good (w .table) → (c : Call) → Good (then w c .table)
-then-good w g c = did-good (w .table) g (w .last) c _ (did (w .table) g (w .last) c)
-
-end-good : (list : List Call) (w : Wall) → Good (w .table) → Good (end w list .table)
+pub end-good : (list : List Call) (w : Wall) → Good (w .table) → Good (end w list .table)
 unfolding end
 end-good [] w g = g
-end-good (c ∷ cs) w g = end-good cs (then w c) (then-good w g c)
+end-good (c ∷ cs) w g = end-good cs (then w c) (after-good w g c)
 
 end-size : (list : List Call) (w : Wall) → Good (w .table) → length (end w list .table) ≡ length (w .table)
 unfolding end
 end-size [] w g = refl
 end-size (c ∷ cs) w g =
-    end-size cs (then w c) (then-good w g c) ∙ did-size (w .table) g (w .last) c _ (did (w .table) g (w .last) c)
+    end-size cs (then w c) (after-good w g c) ∙ did-size w g c _ (did w g c)
 
 end-zeros : (list : List Call) (w : Wall) → Good (w .table) → Zeros (w .table) → Zeros (end w list .table)
 unfolding end
 end-zeros [] w g z = z
 end-zeros (c ∷ cs) w g z =
-    end-zeros cs (then w c) (then-good w g c) (did-zeros (w .table) g (w .last) c _ (did (w .table) g (w .last) c) z)
+    end-zeros cs (then w c) (after-good w g c) (did-zeros w g c _ (did w g c) z)
 
 run-same : (list : List Call) (w : Wall) → Good (w .table) → run w list ≡ plainRun (plainOf w) list
 unfolding run plainRun
 run-same [] w g = refl
 run-same (c ∷ cs) w g =
-    rw (step-same w g c) (ap (λ (l : List Answer). outcome w c .answer ∷ l) (run-same cs (then w c) (then-good w g c)))
+    rw (step-same w g c) (ap (λ (l : List Answer). outcome w c .answer ∷ l) (run-same cs (then w c) (after-good w g c)))
 
 end-same : (list : List Call) (w : Wall) → Good (w .table) → plainEnd (plainOf w) list ≡ plainOf (end w list)
 unfolding end plainEnd
 end-same [] w g = refl
-end-same (c ∷ cs) w g = rw (step-same w g c) (end-same cs (then w c) (then-good w g c))
+end-same (c ∷ cs) w g = rw (step-same w g c) (end-same cs (then w c) (after-good w g c))
 
 -- what was open and is opened is what is closed and is open still
 end-count :
@@ -75,8 +73,8 @@ end-count :
 unfolding run end openings closings
 end-count [] w g = omega arith
 end-count (c ∷ cs) w g =
-    let i = end-count cs (then w c) (then-good w g c) in
-    let j = did-count (w .table) g (w .last) c _ (did (w .table) g (w .last) c) in
+    let i = end-count cs (then w c) (after-good w g c) in
+    let j = did-count w g c _ (did w g c) in
     omega arith
 
 -- ---- the map
@@ -89,8 +87,10 @@ as-map w list g =
       answers = run-same list w g;
       entries = λ f. ap (λ (p : Plain). p .requests f) e;
       once = h .taken .no-fence-twice;
-      as-many = as-many-open (end w list .table) h ∙ ap (λ (p : Plain). howMany (p .requests)) e;
+      as-many = as-many-open (end w list) h ∙ ap (λ (p : Plain). howMany (p .requests)) e;
+      aside = as-aside (end w list) h ∙ ap (λ (p : Plain). asideOf (p .requests)) e;
       last-fence = ap (λ (p : Plain). p .last) e;
+      reply-buffer = ap (λ (p : Plain). p .n) e;
       size = end-size list w g;
     }
 
@@ -101,39 +101,26 @@ module _ (w : Wall) (g : Good (w .table)) where
   t = w .table
 
   next-of :
-      (action : ℕ) → outcome w (openCall action) .answer .code ≡ 0
-      → Next (λ (f : ℕ). stillOpen t f ≡ true) (w .last) (outcome w (openCall action) .answer .fence)
-  unfolding picked refused
-  next-of action z =
-      cases (ltb (lowestFree t) (length t))
-      (λ e. rw (open-room t g (w .last) action e)
-      (record {
+      (room : ℕ) (m : List ℕ) (ring : ℕ) (x : Outcome) → Did w (openCall room m ring) x → x .answer .code ≡ 0
+      → Next (λ (f : ℕ). stillOpen t f ≡ true) (w .last) (x .answer .fence)
+  unfolding refused picked
+  next-of room m ring x (refuses _ n e) z = true-false (sym (eq-eqb n 0 z) ∙ e)
+  next-of room m ring x (opens _ _ _ p) z =
+      record {
         d = passes (entryIn t) (w .last);
-        counted-up = fence-picked t g (w .last);
-        not-open = λ o. true-false (sym o ∙ fence-closed t g (w .last));
+        counted-up = fence-picked w g;
+        not-open = λ o. true-false (sym o ∙ fence-closed w g);
         skipped = λ k h. still-there t _ ∙ picked-skips (entryIn t) (w .last) k h;
-      }))
-      (λ e. let q : _≡_ {A = ℕ} 26 0 = rw (open-full t g (w .last) action e) at z in absurd (omega arith))
-
-  full-of : (action : ℕ) → (outcome w (openCall action) .answer .code ≡ 26) ↔ (openRecords t ≡ length t)
-  unfolding refused
-  full-of action =
-      cases (ltb (lowestFree t) (length t))
-      (λ e.
-      let l : openRecords t < length t = ltb-true (openRecords t) (length t) (sym (room t) ∙ e) in
-      rw (open-room t g (w .last) action e) (λ q. absurd (omega arith), λ q. absurd (omega arith)))
-      (λ e.
-      let l : length t ≤ openRecords t = ltb-false (openRecords t) (length t) (sym (room t) ∙ e) in
-      rw (open-full t g (w .last) action e) (λ q. omega (arith, open-most t), λ q. refl))
+      }
 
   follows : Follows w
   follows =
       record {
-        next-fence = next-of;
-        opened = λ action z. did-open t g (w .last) action _ (did t g (w .last) (openCall action)) z;
-        answered = λ m z. did-answer t g (w .last) m _ (did t g (w .last) (replyCall (some m))) z;
-        only-its-own = λ m f n. did-other t g (w .last) m _ (did t g (w .last) (replyCall (some m))) f n;
-        full = full-of;
+        next-fence = λ room m ring z. next-of room m ring _ (did w g (openCall room m ring)) z;
+        opened = λ room m ring z. did-open w g room m ring _ (did w g (openCall room m ring)) z;
+        answered = λ m z. did-answer w g m _ (did w g (replyCall (some m))) z;
+        only-its-own = λ m f n. did-other w g m _ (did w g (replyCall (some m))) f n;
+        in-order = λ room m ring l. in-order w g room m ring l;
       }
 
 -- ---- from a fresh table
@@ -153,68 +140,75 @@ from-fresh w list g z n =
           (λ i h. zs i (none-open (end w list .table) o i) ∙ sym (fresh-at (length (w .table)) i));
     }
 
-module _ (n : ℕ) where
-  abbrev clear : Wall
-  clear = wall (replicate n freeRecord) 65535
+-- a table of so many free records, for a reply buffer of n
+module _ (records n : ℕ) where
+  abbrev pub clear : Wall
+  clear = record { table = replicate records freeRecord; last = 65535; n = n }
 
-  clear-good : 1 ≤ n → n ≤ 256 → Good (clear .table)
+  pub clear-good : 1 ≤ records → records ≤ 256 → Good (clear .table)
   clear-good l h =
       record {
         taken =
             record {
-              some-records = rw (length-replicate n freeRecord) l;
-              not-too-many = rw (length-replicate n freeRecord) h;
-              no-fence-twice = λ w. true-false (sym (w .open-i) ∙ ap isOpen (fresh-at n (w .i)) ∙ free-closed);
+              some-records = rw (length-replicate records freeRecord) l;
+              not-too-many = rw (length-replicate records freeRecord) h;
+              no-fence-twice = λ w. true-false (sym (w .open-i) ∙ ap isOpen (fresh-at records (w .i)) ∙ free-closed);
             };
-        sixteen-bits = λ i. rw (fresh-at n i) (omega arith);
+        sixteen-bits = λ i. rw (fresh-at records i) (omega arith);
       }
 
-  clear-map : plainOf clear ≡ freshPlain n
+  clear-map : plainOf clear ≡ freshPlain records n
   clear-map =
-      λ i. record { most = length-replicate n freeRecord i; requests = fun-ext (λ f. fresh-none n f) i; last = 65535 }
+      λ i. record {
+        most = length-replicate records freeRecord i;
+        n = n;
+        requests = fun-ext (λ f. fresh-none records f) i;
+        last = 65535;
+      }
 
-module _ (t : List Record) (last : ℕ) (l : 1 ≤ length t) (h : length t ≤ 256) where
-  fresh-told :
-      fresh t last ≡ record { answer = numberAlone 0; table = replicate (length t) freeRecord; last = 65535 }
+module _ (w : Wall) (n : ℕ) (l : 1 ≤ length (w .table)) (h : length (w .table) ≤ 256) (a : allowed n ≡ true) where
+  abbrev now : Wall
+  now = clear (length (w .table)) n
+
+  pub fresh-told : fresh w n ≡ record { answer = numberAlone 0; wall = now }
   unfolding freshBy freshNumber allowedLength need
-  fresh-told = rw (le-leb 1 (length t) l, le-leb (length t) 256 h)
+  fresh-told = rw (le-leb 1 (length (w .table)) l, le-leb (length (w .table)) 256 h, a)
 
-  fresh-wall : (list : List Call) → FreshWall t last list
+  pub fresh-made : madeFresh w n ≡ now
+  fresh-made = ap (λ (x : Outcome). x .wall) fresh-told
+
+  pub fresh-wall : (list : List Call) → FreshWall w n list
   fresh-wall list =
-      let w : Wall = clear (length t) in
-      let g : Good (w .table) = clear-good (length t) l h in
+      let k : ℕ = length (w .table) in
+      let g : Good (now .table) = clear-good k n l h in
       record {
         begins = rw fresh-told;
-        as-map = rw (fresh-told, ← clear-map (length t)) (as-map w list g);
-        follows = rw fresh-told (follows (end w list) (end-good list w g));
-        from-fresh = rw fresh-told (from-fresh w list g (λ i o. fresh-at (length t) i) (fresh-open (length t)));
+        as-map = rw (fresh-made, ← clear-map k n) (as-map now list g);
+        follows = rw fresh-made (follows (end now list) (end-good list now g));
+        from-fresh = rw fresh-made (from-fresh now list g (λ i o. fresh-at k i) (fresh-open k));
+        by-history = rw fresh-made (by-history now list g (fresh-aside k) (fresh-open k) (fresh-none k));
       }
 
--- ---- what is asked in code
+-- ---- from any table in which nothing is open
 
-asked-opening : (w : Wall) (action : ℕ) → calling (w .table) (w .last) (asksOpening action) ≡ outcome w (openCall action)
-unfolding calling
-asked-opening w action = refl
-
-asked-reply :
-    (w : Wall) (received : Option Message)
-    → calling (w .table) (w .last) (asksReply received) ≡ outcome w (replyCall received)
-unfolding calling asksReply reply
-asked-reply w none = refl
-asked-reply w (some m) = refl
+empty-table : (w : Wall) → Good (w .table) → openRecords (w .table) ≡ 0 → (list : List Call) → ByHistory w list
+empty-table w g z list =
+    by-history w list g (none-aside (w .table) z) z
+    (λ f. entry-none (w .table) f (λ k. has-closed f _ (none-open (w .table) z k)))
 
 -- ---- all of it
 
 pub wallIsMap : WallIsMap
 wallIsMap =
     record {
-      any-table =
-          λ t last g list. (as-map (wall t last) list g, follows (end (wall t last) list) (end-good list (wall t last) g));
+      any-table = λ w g list. (as-map w list g, follows (end w list) (end-good list w g));
       fresh-table = fresh-wall;
+      empty-table = empty-table;
       bad-table = bad-table;
-      bad-length = bad-length;
+      bad-buffer = bad-buffer;
+      good-buffer = good-buffer;
+      fresh-length = fresh-length;
+      fresh-buffer = fresh-buffer;
       refused-leaves = refused-leaves;
       free-is-0 = free-is-0;
-      asked-opening = asked-opening;
-      asked-reply = asked-reply;
     }

@@ -1,50 +1,50 @@
 -- Lists of openings and replies, run on a wall and on the plain map.
-use Prim.Native.Nat.{ℕ, _+_}
+use Prim.Native.Nat.{ℕ, _+_, _<_}
 use mathlib.Core.Bool.{not, _&&_, cond}
 use mathlib.Core.List.{List, [], _∷_}
 use mathlib.Core.Option.{Option}
 use lib.Dec.{eqb}
 use Rattle.message.specs.declared.Message.{Message}
-use Rattle.requests.specs.declared.record.Record.{Record}
 use Rattle.requests.specs.declared.planning.Answer.{Answer}
-use Rattle.requests.specs.Calls.{Outcome, opening, reply}
+use Rattle.requests.specs.Calls.{Wall, Outcome, opening, reply}
 use Rattle.matching.specs.Map.{Plain, PlainOutcome, plainOpen, plainReply}
 
--- an opening of an action, or a reply: a received message as it unpacks, none where it is malformed
+-- an opening: the reply dwords to set aside, the message, and the number that the ring answers its whole send with, any
+-- number here (Mixed.antt has the ring's own); or a reply: a received message as it unpacks, none where it is malformed
 pub data Call : Type 0 where
-  openCall : ℕ → Call
+  openCall : ℕ → List ℕ → ℕ → Call
   replyCall : Option Message → Call
 
--- ---- a wall: a table that nothing else writes, and the last fence
+-- 'the ring's own' numbers are those of a whole send. All are below 14: 'Numbers 6 to 11 belong to looks, 14 onward to
+-- packing and firmware'
+abbrev pub OfRing : Call → Type 0
+OfRing (openCall room m ring) = ring < 14
+OfRing (replyCall received) = Unit {0}
 
-pub record Wall : Type 0 where
-  pub table : List Record
-  pub last : ℕ
+abbrev pub AllOfRing : List Call → Type 0
+AllOfRing [] = Unit {0}
+AllOfRing (c ∷ cs) = OfRing c × AllOfRing cs
 
-abbrev pub wall : List Record → ℕ → Wall
-wall t last = record { table = t; last = last }
-
-abbrev pub left : Outcome → Wall
-left x = wall (x .table) (x .last)
+-- ---- a wall: a table and a state that nothing else writes
 
 -- what a call gives on a wall: its answer, and the wall after it
 abbrev pub outcome : Wall → Call → Outcome
-outcome w (openCall action) = opening (w .table) (w .last) action
-outcome w (replyCall received) = reply (w .table) (w .last) received
+outcome w (openCall room m ring) = opening w room m ring
+outcome w (replyCall received) = reply w received
 
 -- all answers of a list of calls, and the wall at its end
 unfoldable pub run : Wall → List Call → List Answer
 run w [] = []
-run w (c ∷ cs) = outcome w c .answer ∷ run (left (outcome w c)) cs
+run w (c ∷ cs) = outcome w c .answer ∷ run (outcome w c .wall) cs
 
 unfoldable pub end : Wall → List Call → Wall
 end w [] = w
-end w (c ∷ cs) = end (left (outcome w c)) cs
+end w (c ∷ cs) = end (outcome w c .wall) cs
 
 -- ---- the plain map, fed the same list
 
 abbrev pub plainOutcome : Plain → Call → PlainOutcome
-plainOutcome p (openCall action) = plainOpen p action
+plainOutcome p (openCall room m ring) = plainOpen p room m ring
 plainOutcome p (replyCall received) = plainReply p received
 
 unfoldable pub plainRun : Plain → List Call → List Answer
@@ -58,12 +58,12 @@ plainEnd p (c ∷ cs) = plainEnd (plainOutcome p c .next) cs
 -- ---- the history: how many calls opened a request, and how many closed one
 
 abbrev pub opensOne : Call → Answer → ℕ
-opensOne (openCall action) a = cond (eqb (a .code) 0) 1 0
+opensOne (openCall room m ring) a = cond (eqb (a .code) 0) 1 0
 opensOne (replyCall received) a = 0
 
 -- 'success or failure .. closes it', 'retry closes it'; busy, 3, does not
 abbrev pub closesOne : Call → Answer → ℕ
-closesOne (openCall action) a = 0
+closesOne (openCall room m ring) a = 0
 closesOne (replyCall received) a = cond (eqb (a .code) 0 && not (eqb (a .kind) 3)) 1 0
 
 unfoldable pub openings : List Call → List Answer → ℕ

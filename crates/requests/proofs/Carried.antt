@@ -60,6 +60,18 @@ module _ (w : Wall) where
       (λ g. rw (u, g, out)))
       (λ u. rw (u, out))
 
+  -- and the last fence stays
+  pub reply-last : (h : Heard) → planOf t (length t) state (asksReply h) .last ≡ w .last
+  unfolding planOf asksReply replyPlan
+  reply-last h =
+      cases (allowedLength (length t) && not (fenceTwice t))
+      (λ u. cases (allowed (w .n))
+      (λ g. cases (eqb (h .code) 0)
+      (λ z. cases (stillOpen t (h .fence) && isReply (h .kind)) (λ k. rw (u, g, z, k)) (λ k. rw (u, g, z, k)))
+      (λ z. rw (u, g, z)))
+      (λ g. rw (u, g)))
+      (λ u. rw u)
+
   -- an opening's plan: its number is the wall's, and carried out, where the ring answers c, it is the opening
   module _ (room : ℕ) (m : List ℕ) where
     abbrev plan : Plan

@@ -1,8 +1,10 @@
-pub mod CallPassed
 pub mod Cells
 pub mod Freed
+pub mod FreedCall
+pub mod JudgeCall
 pub mod KeptCall
 pub mod Records
+pub mod ReplyPassed
 pub mod Shared
 pub mod SharedRef
 pub mod StateCalls

@@ -1,20 +1,20 @@
--- Lists of records and of their words, as the walks of the lent table need them.
+-- Lists of records, and of their words with what is set aside, as the walks of the lent table need them.
 use mathlib.Core.Path.{_≡_, refl, sym, _∙_, ap, subst}
 use Prim.Native.Nat.{ℕ, zero, suc, _+_, _<_, _≤_}
-use native.Mathlib.Nat.{not-suc-le-zero, le-of-suc-le-suc}
+use native.Mathlib.Nat.{not-suc-le-zero, le-of-suc-le-suc, suc-ne-zero, suc-inj}
 use native.Mathlib.Numerals.{add-one}
 use native.Mathlib.Omega.{arith}
 use mathlib.Core.Bool.{Bool, true, false, cond}
 use mathlib.Core.List.{List, [], _∷_, _++_}
 use lib.Dec.{T as Holds, leb, leb→le}
 use borrow.Author.Tests.{le-leb}
-use lib.ListN.{length, getD, set, take, drop, replicate, length-map}
+use lib.ListN.{length, getD, set, take, drop, replicate}
 use Rattle.requests.specs.declared.record.Record.{Record}
 use Rattle.requests.specs.Table.{freeRecord}
-use Rattle.requests.specs.Calls.{given}
-use Rattle.requests.specs.Plan.{carried}
 use Rattle.requests.specs.declared.planning.Plan.{Plan}
-use Rattle.requests.specs.Words.{recordOf, records}
+use Rattle.requests.specs.Words.{recordWith, recordsWith}
+use Rattle.requests.specs.Plan.{carried}
+use Rattle.requests.proofs.Beside.{with-length}
 use Rattle.wall.specs.Private.{kept}
 
 -- past the end nothing is stored
@@ -40,19 +40,25 @@ take-suc (a ∷ zs) (y ∷ ys) (suc i) l k e =
     tl [] = []
     tl (z ∷ zs) = zs
 
-records-set : (zs : List ℕ) (i w : ℕ) → records (set zs i w) ≡ set (records zs) i (recordOf w)
-records-set [] i w = refl
-records-set (z ∷ zs) zero w = refl
-records-set (z ∷ zs) (suc i) w = ap (λ (t : List Record). recordOf z ∷ t) (records-set zs i w)
+with-set :
+    (zs rs : List ℕ) (i w r : ℕ) → length zs ≡ length rs
+    → recordsWith (set zs i w) (set rs i r) ≡ set (recordsWith zs rs) i (recordWith w r)
+unfolding recordsWith
+with-set [] rs i w r l = refl
+with-set (z ∷ zs) [] i w r l = absurd (suc-ne-zero (length zs) l)
+with-set (z ∷ zs) (x ∷ rs) zero w r l = refl
+with-set (z ∷ zs) (x ∷ rs) (suc i) w r l =
+    ap (λ (t : List Record). recordWith z x ∷ t) (with-set zs rs i w r (suc-inj l))
 
--- one record more is taken by value: the words hold one more
+-- one record more is taken by value: the words and what is set aside hold one more
 pub take-next :
-    (zs : List ℕ) (ys : List Record) (i w : ℕ) → i < length zs → i < length ys → recordOf w ≡ getD ys i freeRecord
-    → take i (records zs) ≡ take i ys → take (i + 1) (records (set zs i w)) ≡ take (i + 1) ys
-take-next zs ys i w l k same e =
-    subst (λ (n : ℕ). take n (records (set zs i w)) ≡ take n ys) (sym (add-one i))
-    (ap (take (suc i)) (records-set zs i w ∙ ap (set (records zs) i) same)
-    ∙ take-suc (records zs) ys i (subst (λ (n : ℕ). i < n) (sym (length-map zs recordOf)) l) k e)
+    (zs rs : List ℕ) (ys : List Record) (i w r : ℕ) → length zs ≡ length rs → i < length zs → i < length ys
+    → recordWith w r ≡ getD ys i freeRecord → take i (recordsWith zs rs) ≡ take i ys
+    → take (i + 1) (recordsWith (set zs i w) (set rs i r)) ≡ take (i + 1) ys
+take-next zs rs ys i w r both l k same e =
+    subst (λ (n : ℕ). take n (recordsWith (set zs i w) (set rs i r)) ≡ take n ys) (sym (add-one i))
+    (ap (take (suc i)) (with-set zs rs i w r both ∙ ap (set (recordsWith zs rs) i) same)
+    ∙ take-suc (recordsWith zs rs) ys i (subst (λ (n : ℕ). i < n) (sym (with-length zs rs)) l) k e)
 
 kept-by : (t : Bool) (n : ℕ) → (Holds t → n ≤ 256) → (cond t n 0 ≤ n) × (cond t n 0 ≤ 256)
 kept-by true n h = (omega arith, h tt)
@@ -72,12 +78,13 @@ pub take-whole : (ys : List Record) → take (length ys) ys ≡ ys
 take-whole [] = refl
 take-whole (y ∷ ys) = ap (λ (zs : List Record). y ∷ zs) (take-whole ys)
 
--- a plan is carried out where its record is stored and its last fence kept
+-- a plan is carried out where its record is stored and the last fence is its own
 pub carried-out :
-    (p : Plan) (ys zs : List Record) (us : List ℕ) → zs ≡ set ys (p .at) (p .stored) → getD us 0 0 ≡ p .last
-    → given (p .answer) zs us ≡ carried p ys
+    (p : Plan) (ys zs : List Record) (ws : List ℕ) (last n : ℕ) → zs ≡ set ys (p .at) (p .stored) → last ≡ p .last
+    → record { answer = p .answer; wall = record { table = zs; last = last; n = n } }
+    ≡ carried p (record { table = ys; last = getD ws 0 0; n = n })
 unfolding carried
-carried-out p ys zs us e l = λ i. record { answer = p .answer; table = e i; last = l i }
+carried-out p ys zs ws last n e l = λ i. record { answer = p .answer; wall = record { table = e i; last = l i; n = n } }
 
 -- ---- a table whose first i records are free
 

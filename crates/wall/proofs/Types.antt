@@ -20,7 +20,7 @@ R = T.the-row
 
 -- the wall's state
 abbrev pub State : RattleType
-State = Array u16 1
+State = Array u16 2
 
 abbrev pub word16 : Ty
 word16 = tyInt w16

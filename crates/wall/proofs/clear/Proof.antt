@@ -76,7 +76,9 @@ fails true f = absurd (f tt)
 fails false _ = refl
 
 is-free : Is R freeRecord (T′.lowered freeRecord ∷ [])
-is-free = LL.owes T.the-type T′.the-laws freeRecord ((refl, lit< tt), ((refl, lit< tt), ((refl, lit< tt), ((refl, lit< tt), tt))))
+is-free =
+    LL.owes T.the-type T′.the-laws freeRecord
+    ((refl, lit< tt), ((refl, lit< tt), ((refl, lit< tt), ((refl, lit< tt), ((refl, lit< tt), tt)))))
 
 -- the table with its first i records free
 abbrev freed : List Record → ℕ → List Record
@@ -182,7 +184,7 @@ module _ {M : Type 1} (𝓤 : URA M) (H : Heap 𝓤) (A : Atoms 𝓤) (W : Given
         (from ! (stop !)) (init ! 3 refl (tt, record { fits = m-fits }))
         $ assigns ! (bin ! (load ! (from ! (fld ! refl (stop !))) (look-in ! 10 (sub ! 0 refl (whole !))))
         (load ! (from ! (stop !)) (look ! 3 refl)) tt) (from ! (stop !)) (init ! 4 refl (tt, tt))
-        $ rewrite ! 4 (λ (p : ℕ). ‵ (fat fullShare tyPtr l₇ 0 (vptr b p))) (sym (place-is 8 o i)) refl
+        $ rewrite ! 4 (λ (p : ℕ). ‵ (fat fullShare tyPtr l₇ 0 (vptr b p))) (sym (place-is 10 o i)) refl
         $ elem-out ! R (Is R) (shows 𝓤 H A R) (LL.vals T.the-type T′.the-laws) (LL.tells T.the-type T′.the-laws) fullShare zs i
         freeRecord b o in-zs (λ _.
         assigns ! (of-opd ! (load ! (from ! (stop !)) (look ! 14 refl))) (from ! (hop ! (look ! 6 refl) (stop !)))
@@ -196,7 +198,7 @@ module _ {M : Type 1} (𝓤 : URA M) (H : Heap 𝓤) (A : Atoms 𝓤) (W : Given
         in-zs : i < length zs
         in-zs = omega (arith, less, within, la)
 
-        m-fits : i * 8 < 2 ^ 64
+        m-fits : i * 10 < 2 ^ 64
         m-fits = omega (arith, less, within, gn .1)
 
         next-fits : i + 1 < 2 ^ 64
@@ -268,7 +270,7 @@ module _ {M : Type 1} (𝓤 : URA M) (H : Heap 𝓤) (A : Atoms 𝓤) (W : Given
     starts =
         qed W Start ∵ exec ! C Λ En t-1 (atRet En Post)
         $ assigns ! (agg ! (and-then ! (lit ! tt) (and-then ! (lit ! tt) (and-then ! (lit ! tt) (and-then !
-        (lit ! tt) (no-more !))))))
+        (lit ! tt) (and-then ! (lit ! tt) (no-more !)))))))
         (from ! (stop !)) (init ! 8 refl free-wt)
         $ assigns ! (of-opd ! (lit ! tt)) (from ! (stop !)) (init ! 6 refl (tt, record { fits = lit< tt }))
         $ move ! (17 ∷ []) $ fsplit ! $ fsplit ! $ move ! (1 ∷ []) $ fsplit ! $ move ! (20 ∷ []) $ split !
