@@ -114,7 +114,7 @@ pub alone : (rs : List Row) → firstOf rs ≡ firstJudged (rs ∷ [])
 unfolding firstJudged
 alone rs = zero-or (firstOf rs)
 
-judged-behind : (js more : List (List Row)) → then (firstJudged js) (firstJudged more) ≡ firstJudged (js ++ more)
+pub judged-behind : (js more : List (List Row)) → then (firstJudged js) (firstJudged more) ≡ firstJudged (js ++ more)
 unfolding firstJudged
 judged-behind [] more = refl
 judged-behind (rs ∷ js) more =

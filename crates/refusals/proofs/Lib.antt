@@ -6,3 +6,4 @@ pub mod Lowest
 pub mod Rows
 pub mod Files
 pub mod Walls
+pub mod Requests

@@ -22,7 +22,7 @@ use Rattle.refusals.proofs.Says.{Accepts, Says, refusal, says}
 
 -- ---- which numbers
 
-one-look : (fits : Bool) (own : ℕ) (m d : List ℕ) (n : ℕ) → oneOf lookingSend (numberAt fits own m d n) ≡ true
+pub one-look : (fits : Bool) (own : ℕ) (m d : List ℕ) (n : ℕ) → oneOf lookingSend (numberAt fits own m d n) ≡ true
 unfolding oneOf sendDecision sendLookNeeds lookNeeds
 one-look fits own m d n =
     let next = one-need lookingSend in

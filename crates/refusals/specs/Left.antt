@@ -13,8 +13,11 @@ use Rattle.channel.specs.Outcome.{Outcome}
 use Rattle.channel.specs.Opening.{Opening}
 use Rattle.channel.specs.Operations.{Op, sendLook, sendMove, sendPublish, sendWhole}
 use Rattle.channel.specs.Operations.{receiveLook, receiveMove, receivePublish, receiveWhole}
-use Rattle.requests.specs.Calls
-use Rattle.requests.specs.declared.record.Record.{Record}
+use Rattle.requests.specs.Calls.{Wall}
+use Rattle.requests.specs.Opening.{Sent, sentFor}
+use Rattle.requests.specs.declared.planning.Answer.{Answer}
+use Rattle.refusals.specs.Order.{AllPass}
+use Rattle.refusals.specs.WallRows.{requestTests}
 
 -- the column 'Leaves', of the descriptor: 7 'STATUS = 1', 8 'STATUS = 4', 9 'STATUS = 2', 13 'HEAD moved', to the
 -- offset past the message, else 'all'
@@ -71,15 +74,26 @@ pub record OpeningRefused (d b : List ℕ) (x : Opening) : Type 0 where
   pub sender : x .sender ≡ idleAt 0 0
   pub receiver : x .receiver ≡ idleAt 0 0
 
--- a refused call of a wall: 27 'changes nothing', and neither do the others, by the column's 'all'. No figure is
--- answered
-pub record WallRefused (t : List Record) (last : ℕ) (x : Calls.Outcome) : Type 0 where
-  pub table : x .table ≡ t
-  pub last-fence : x .last ≡ last
-  pub no-kind : x .answer .kind ≡ 0
-  pub no-fence : x .answer .fence ≡ 0
-  pub no-action : x .answer .action ≡ 0
-  pub no-count : x .answer .count ≡ 0
+-- a refused call of a wall w, by its answer and the wall afterwards: 27 'changes nothing', and neither do the others, by the
+-- column's 'all'. No figure is answered
+pub record WallRefused (w : Wall) (answer : Answer) (after : Wall) : Type 0 where
+  pub table : after .table ≡ w .table
+  pub last-fence : after .last ≡ w .last
+  pub reply-buffer : after .n ≡ w .n
+  pub no-kind : answer .kind ≡ 0
+  pub no-fence : answer .fence ≡ 0
+  pub no-action : answer .action ≡ 0
+  pub no-count : answer .count ≡ 0
+
+-- a refused opening of a request: 'if the ring refuses, table and last fence stay'; the sender's state and the buffer stay
+-- too, and the descriptor by the column 'Leaves', where of the ring's numbers for a send 7 and 8 set STATUS
+pub record RequestRefused (w : Wall) (room : ℕ) (m : List ℕ) (s : State) (d b : List ℕ) (x : Sent) : Type 0 where
+  pub wall-stays : WallRefused w (x .answer) (x .wall)
+  pub state : x .next ≡ s
+  pub descriptor : x .desc ≡ descriptorLeft (x .answer .code) (offsetPast (sendWhole (sentFor w m)) s b) d
+  pub buffer : x .buf ≡ b
+  -- what the wall refuses by itself, ahead of the ring, leaves the channel untouched
+  pub untouched : (AllPass (requestTests w room m) → ⊥) → (x .next ≡ s) × (x .desc ≡ d) × (x .buf ≡ b)
 
 -- ---- reserved words
 

@@ -1,6 +1,6 @@
 -- The customer's demand 1: any input gets an answer, refusals are given exactly when document 01 says, with what the
 -- landed requests of document 02 add, in its order, and leave what its table says.
--- Each call, the number that it answers, and one statement, Demand1, over the rows of Table.antt.
+-- Each call, the number that it answers, and one statement, Demand1, over the rows of Table.antt and WallRows.antt.
 use Prim.Native.Nat.{ℕ, _<_}
 use mathlib.Core.Path.{_≡_}
 use mathlib.Core.Logic.{_↔_}
@@ -20,13 +20,13 @@ use Rattle.firmware.specs.Figures.{imageFigures, directoryFigures, entryFigures
 use Rattle.firmware.specs.declared.bytes.Located.{Located}
 use Rattle.firmware.specs.declared.css.Component.{Component}
 use Rattle.firmware.specs.declared.figures.Figures.{Figures}
-use Rattle.requests.specs.Calls.{fresh, calling, asksOpening, asksReply}
-use Rattle.requests.specs.declared.record.Record.{Record}
+use Rattle.requests.specs.Calls.{Wall, fresh, reply}
+use Rattle.requests.specs.Opening.{sending}
 use Rattle.refusals.specs.Order.{Row, Answered, AllPass}
 use Rattle.refusals.specs.Table.{fits, row-4, row-14-fields, openingRows, operationRows}
 use Rattle.refusals.specs.Table.{imageRows, directoryRows, seekTests, entryRows, manifestRows}
-use Rattle.refusals.specs.Table.{row-35-length, openRequestTests, replyMessageTests, replyDwordsTests}
-use Rattle.refusals.specs.Left.{OperationRefused, OpeningRefused, WallRefused, ReservedStay}
+use Rattle.refusals.specs.WallRows.{freshTests, sendRequestTests, replyMessageTests, replyDwordsTests}
+use Rattle.refusals.specs.Left.{OperationRefused, OpeningRefused, WallRefused, RequestRefused, ReservedStay}
 
 -- ---- the calls that the paper names, and ours beside them, with all that each is given
 
@@ -68,17 +68,19 @@ pub data PublicCall : Type 0 where
   entryFiguresCall : List ℕ → ℕ → PublicCall
   manifestFiguresCall : List ℕ → PublicCall
   hucFiguresCall : List ℕ → PublicCall
-  -- a wall's calls, with its table and its last fence. Making a table fresh: wall::fresh (guc_wall_fresh)
-  freshCall : List Record → ℕ → PublicCall
-  -- an opening of an action: requests::open with wall::call (guc_wall_open)
-  openRequestCall : List Record → ℕ → ℕ → PublicCall
-  -- a reply, decoded: requests::reply with wall::call; and by its dwords: requests::received with wall::call
+  -- a wall's calls, with its table, its last fence and its reply buffer's N. Making one fresh, with the N asked for:
+  -- wall::fresh (guc_wall_fresh)
+  freshCall : Wall → ℕ → PublicCall
+  -- an opening, with the reply dwords set aside, the message, and the sender's state, descriptor and buffer: wall::send
+  -- (guc_wall_send)
+  sendRequestCall : Wall → ℕ → List ℕ → State → List ℕ → List ℕ → PublicCall
+  -- a reply, decoded: requests::reply with wall::reply; and by its dwords: requests::received with wall::reply
   -- (guc_wall_reply). requests::age answers no number
-  replyMessageCall : List Record → ℕ → Message → PublicCall
-  replyDwordsCall : List Record → ℕ → List ℕ → PublicCall
+  replyMessageCall : Wall → Message → PublicCall
+  replyDwordsCall : Wall → List ℕ → PublicCall
 
--- the number that a call answers, by the definition that its contract cites. (Of an opening and of a reply: `wall::call`'s.
--- Those for C cite `opening` and `reply`, which are the same: matching/specs/Matching, `asked-opening`, `asked-reply`.)
+-- the number that a call answers, by the definition that its contract cites. (`wall::reply` cites
+-- `replying`, and what is heard of a message `heardOf`: `reply` is the two together.)
 abbrev pub numberOf : PublicCall → ℕ
 numberOf (openCall d b) = opening d b .code
 numberOf (operationCall op s d b) = gives op s d b .code
@@ -100,10 +102,10 @@ numberOf (directoryFiguresCall blob) = directoryFigures blob .code
 numberOf (entryFiguresCall blob i) = entryFigures blob i .code
 numberOf (manifestFiguresCall blob) = manifestFigures blob .code
 numberOf (hucFiguresCall blob) = hucFigures blob .code
-numberOf (freshCall t last) = fresh t last .answer .code
-numberOf (openRequestCall t last action) = calling t last (asksOpening action) .answer .code
-numberOf (replyMessageCall t last m) = calling t last (asksReply (some m)) .answer .code
-numberOf (replyDwordsCall t last dwords) = calling t last (asksReply (unpack dwords)) .answer .code
+numberOf (freshCall w n) = fresh w n .answer .code
+numberOf (sendRequestCall w room m s d b) = sending w room m s d b .answer .code
+numberOf (replyMessageCall w m) = reply w (some m) .answer .code
+numberOf (replyDwordsCall w dwords) = reply w (unpack dwords) .answer .code
 
 -- 'a part inside a directory is judged only after the directory's own numbers, 14 to 21, have passed', 22 among them
 -- since T-03: 'The manifest and CSS readings inside a directory pass 22 on and promise it.'
@@ -136,10 +138,10 @@ tests (directoryFiguresCall blob) = directoryRows blob ∷ []
 tests (entryFiguresCall blob i) = entryRows blob i ∷ []
 tests (manifestFiguresCall blob) = manifestTests blob
 tests (hucFiguresCall blob) = hucTests blob
-tests (freshCall t last) = (row-35-length t ∷ []) ∷ []
-tests (openRequestCall t last action) = openRequestTests t
-tests (replyMessageCall t last m) = replyMessageTests t m
-tests (replyDwordsCall t last dwords) = replyDwordsTests t dwords
+tests (freshCall w n) = freshTests w n
+tests (sendRequestCall w room m s d b) = sendRequestTests w room m s d b
+tests (replyMessageCall w m) = replyMessageTests w m
+tests (replyDwordsCall w dwords) = replyDwordsTests w dwords
 
 -- ---- what a refused call leaves and gives
 
@@ -179,11 +181,11 @@ LeftBy (directoryFiguresCall blob) = FiguresRefused (directoryFigures blob)
 LeftBy (entryFiguresCall blob i) = FiguresRefused (entryFigures blob i)
 LeftBy (manifestFiguresCall blob) = FiguresRefused (manifestFigures blob)
 LeftBy (hucFiguresCall blob) = FiguresRefused (hucFigures blob)
--- table and last fence stay, and no figure is answered
-LeftBy (freshCall t last) = WallRefused t last (fresh t last)
-LeftBy (openRequestCall t last action) = WallRefused t last (calling t last (asksOpening action))
-LeftBy (replyMessageCall t last m) = WallRefused t last (calling t last (asksReply (some m)))
-LeftBy (replyDwordsCall t last dwords) = WallRefused t last (calling t last (asksReply (unpack dwords)))
+-- a wall stays, and no figure is answered
+LeftBy (freshCall w n) = WallRefused w (fresh w n .answer) (fresh w n .wall)
+LeftBy (sendRequestCall w room m s d b) = RequestRefused w room m s d b (sending w room m s d b)
+LeftBy (replyMessageCall w m) = WallRefused w (reply w (some m) .answer) (reply w (some m) .wall)
+LeftBy (replyDwordsCall w dwords) = WallRefused w (reply w (unpack dwords) .answer) (reply w (unpack dwords) .wall)
 
 -- ---- the demand
 

@@ -1,14 +1,13 @@
 -- Document 01, 'The numbers that say no', to be laid beside its table: a row for each number, in its order and words,
--- then those that document 02 adds, then which rows each call has.
+-- then those that document 02 adds, then which rows each call has; those of a wall are in WallRows.antt.
 -- A row speaks of the call's inputs alone, never of another row: which of those that apply is the answer, Order.antt
 -- and Refusals.antt say.
 use Prim.Native.Nat.{ℕ, _+_, _-_, _*_}
-use mathlib.Core.Bool.{Bool, true, not, _&&_, _||_}
+use mathlib.Core.Bool.{Bool, not, _&&_, _||_}
 use mathlib.Core.List.{List, [], _∷_, _++_}
 use lib.ListN.{length, getD}
 use lib.Dec.{eqb, leb, ltb}
-use Rattle.message.specs.Fields.{fence, type, fieldOf, fit}
-use Rattle.message.specs.Types.{typeOf}
+use Rattle.message.specs.Fields.{fit}
 use Rattle.message.specs.Header.{wellFormed, isMessage}
 use Rattle.message.specs.Packing.{headerFields, hxgFields}
 use Rattle.message.specs.declared.Message.{Message}
@@ -19,9 +18,6 @@ use Rattle.channel.specs.Operations.{Op, sendLook, sendMove, sendPublish, sendW
 use Rattle.channel.specs.Operations.{receiveLook, receiveMove, receivePublish, receiveWhole}
 use Rattle.firmware.specs.Css
 use Rattle.firmware.specs.Cpd
-use Rattle.requests.specs.Table.{isOpen, stillOpen, fenceTwice}
-use Rattle.requests.specs.Calls.{isReply}
-use Rattle.requests.specs.declared.record.Record.{Record}
 use Rattle.refusals.specs.Order.{Row, row}
 
 -- ---- the table: 'No.', 'Given exactly when'
@@ -155,40 +151,11 @@ row-21 blob i =
     row 21 (ltb i (Cpd.count blob) && ltb (length blob) (Cpd.entryPart blob (Cpd.entryStart blob i) .to))
 
 -- ---- what the requests of document 02 add: 'From here on, demand 1 and document 01's table and order include what a request adds.'
+-- The rows of a wall (T-06, T-08) are in WallRows.antt.
 
 -- 22 (T-03) 'when more than one entry has it', the name sought: one of the n entries, and one before that
 abbrev pub row-22 : List ℕ → List ℕ → Row
 row-22 blob name = row 22 (any (λ j. Cpd.hasName blob name j && any (Cpd.hasName blob name) j) (Cpd.count blob))
-
--- 26 (T-06) 'full': an opening finds no free record, every one is open
-unfoldable pub allOpen : List Record → Bool
-allOpen [] = true
-allOpen (r ∷ t) = isOpen r && allOpen t
-
-abbrev pub row-26 : List Record → Row
-row-26 t = row 26 (allOpen t)
-
--- 27 (T-06) 'A reply with no open fence, or a message of another type', by its type and its fence: those of a decoded
--- message, or what a received one holds in those fields of its HXG dword 0 and of its header
-abbrev pub row-27 : List Record → ℕ → ℕ → Row
-row-27 t kind f = row 27 (not (stillOpen t f) || not (isReply kind))
-
-abbrev pub row-27-message : List Record → Message → Row
-row-27-message t m = row-27 t (typeOf (m .body)) (m .fence)
-
-abbrev pub row-27-dwords : List Record → List ℕ → Row
-row-27-dwords t dwords = row-27 t (fieldOf type (getD dwords 1 0)) (fieldOf fence (getD dwords 0 0))
-
--- 35 (T-06) 'Another table length, or two open records with one fence', of 'a lent table of 1 to 256 request records'.
--- Of a table that is made fresh only the length is asked: what it held nobody has made yet
-abbrev pub otherLength : List Record → Bool
-otherLength t = not (leb 1 (length t) && leb (length t) 256)
-
-abbrev pub row-35 : List Record → Row
-row-35 t = row 35 (otherLength t || fenceTwice t)
-
-abbrev pub row-35-length : List Record → Row
-row-35-length t = row 35 (otherLength t)
 
 -- ---- which rows each call has
 
@@ -241,14 +208,3 @@ entryRows blob i = directoryRows blob ++ (row-20-index blob i ∷ row-21 blob i 
 -- '`HUCP.man` is a manifest: .. 44 bytes are needed, else 15'
 abbrev pub manifestRows : List ℕ → List Row
 manifestRows part = row-15 44 part ∷ []
-
--- the tests of a wall's calls, one after another: 35 is 'before all else', so ahead of lower numbers. An opening, a
--- decoded reply, and a received one, which is unpacked first: 'refuses a malformed one by 4'
-abbrev pub openRequestTests : List Record → List (List Row)
-openRequestTests t = (row-35 t ∷ []) ∷ (row-26 t ∷ []) ∷ []
-
-abbrev pub replyMessageTests : List Record → Message → List (List Row)
-replyMessageTests t m = (row-35 t ∷ []) ∷ (row-27-message t m ∷ []) ∷ []
-
-abbrev pub replyDwordsTests : List Record → List ℕ → List (List Row)
-replyDwordsTests t dwords = (row-35 t ∷ []) ∷ (row-4 dwords ∷ []) ∷ (row-27-dwords t dwords ∷ []) ∷ []

@@ -107,6 +107,23 @@ module _ (w : Wall) where
         (λ g. rw (u, g)))
         (λ u. rw u)
 
+    -- the fence that it picked
+    pub plan-picked : openNumber w room m ≡ 0 → plan .last ≡ pickedFence w
+    unfolding planOf asksRequest openPlan openNumber pickedFence wallNeeds usable need
+    plan-picked e =
+        cases (allowedLength (length t) && not (fenceTwice t))
+        (λ u. cases (allowed (w .n))
+        (λ g. cases (leb room 256)
+        (λ r. cases (isRequest m)
+        (λ q. cases (ltb (lowestFree t) (length t))
+        (λ l. cases (leb (setAside t + room) (w .n - 1)) (λ k. rw (u, g, r, q, l, k))
+        (λ k. absurd (omega (arith, rw (u, g, r, q, l, k) at e))))
+        (λ l. absurd (omega (arith, rw (u, g, r, q, l) at e))))
+        (λ q. absurd (omega (arith, rw (u, g, r, q) at e))))
+        (λ r. absurd (omega (arith, rw (u, g, r) at e))))
+        (λ g. absurd (omega (arith, rw (u, g) at e))))
+        (λ u. absurd (omega (arith, rw u at e)))
+
     refused-by : (c : ℕ) → eqb c 0 ≡ false → openBy c w room m ≡ refused c w
     unfolding openBy
     refused-by c z = rw z
@@ -150,3 +167,18 @@ module _ (w : Wall) where
         let same : r ≡ plan = rw z at e in
         ap (λ (p : Plan). carried p w) same ∙ plan-carried
         ∙ ap (λ (c : ℕ). openBy c w room m) (sym (ap (λ (p : Plan). p .answer .code) same ∙ plan-number)))
+
+    -- the last fence before it
+    pub sent-was :
+        (r : Plan) → r ≡ cond (eqb (plan .answer .code) 0) (sentPlan (r .answer .code) (length t) plan) plan → r .was ≡ w .last
+    unfolding sentPlan
+    sent-was r e =
+        cases (eqb (plan .answer .code) 0)
+        (λ z.
+        let sent : r ≡ cond (eqb (r .answer .code) 0) plan (refusedPlan (r .answer .code) (length t) (plan .was)) = rw z at e in
+        cases (eqb (r .answer .code) 0)
+        (λ y. let same : r ≡ plan = rw y at sent in ap (λ (p : Plan). p .was) same ∙ plan-was)
+        (λ y.
+        let same : r ≡ refusedPlan (r .answer .code) (length t) (plan .was) = rw y at sent in
+        ap (λ (p : Plan). p .was) same ∙ plan-was))
+        (λ z. let same : r ≡ plan = rw z at e in ap (λ (p : Plan). p .was) same ∙ plan-was)

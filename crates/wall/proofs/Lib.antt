@@ -5,6 +5,8 @@ pub mod JudgeCall
 pub mod KeptCall
 pub mod Records
 pub mod ReplyPassed
+pub mod SendCalls
+pub mod Sendings
 pub mod Shared
 pub mod SharedRef
 pub mod StateCalls

@@ -5,7 +5,7 @@ use mathlib.Core.Path.{refl}
 use mathlib.Core.Option.{Option·elim}
 use Rattle.message.specs.Fields.{fit, dword}
 use Rattle.message.specs.Types.{typeOf, carried, bodyFields, bodiesFrom, bodies, ofType, bodyOf, someBody, known}
-use Rattle.message.specs.Header.{wellFormed, isMessage}
+use Rattle.message.specs.Header.{wellFormed, isMessage, isRequest, headerWith, withFence}
 use Rattle.message.specs.Packing.{originNumber, originOf, decoded, unpack, headerFields, hxgFields, pack, refusing}
 use Rattle.runs.specs.TwoRuns.{firstCount, secondCount, runOf, withRun, storedRuns, readRuns}
 use Rattle.ring.specs.Ring.{allowed, used, free}
@@ -21,8 +21,9 @@ use Rattle.firmware.specs.Cpd
 use Rattle.firmware.specs.Inside.{hucNumber, manifestNumber}
 use Rattle.firmware.specs.Version.{hucReading, manifestReading, reading}
 use Rattle.requests.specs.Fence.{age, signed, after, firstClosed, nextFence}
-use Rattle.requests.specs.Table.{isOpen, hasFence, stillOpen, fenceTwice, allowedLength, usable, lowestFree, placeOf}
+use Rattle.requests.specs.Table.{isOpen, hasFence, stillOpen, fenceTwice, allowedLength, usable, lowestFree, placeOf, setAside}
 use Rattle.requests.specs.Calls
+use Rattle.requests.specs.Opening.{sendFor, sending}
 use Rattle.examples.specs.Example.{Each}
 use Rattle.examples.specs.Walls.{walls}
 use Rattle.examples.specs.Inputs
@@ -70,15 +71,21 @@ examples =
 
 of-walls : Each walls
 unfolding
-    Each walls typeOf need age signed after firstClosed nextFence isOpen hasFence stillOpen fenceTwice allowedLength usable
-    lowestFree placeOf Calls.refused Calls.freshNumber Calls.freshBy Calls.openNumber Calls.openBy Calls.isReply Calls.replyNumber
-    Calls.counted Calls.countAfter Calls.recordAfter Calls.answerOf Calls.replyAt Calls.replyBy Calls.reply
+    Each walls Inputs.countUp Inputs.dwords Inputs.descriptorWith Inputs.buffer
+    typeOf carried bodyFields bodiesFrom bodies ofType bodyOf someBody known wellFormed isMessage isRequest headerWith withFence
+    allowed used free zeros allZero idle activeSend moves need firstNeeds lookNeeds sendLookNeeds marked sendDecision
+    Send.lookBy Send.moveNumber Send.moveBy Send.publishNumber Send.publishBy Send.afterLook
+    age signed after firstClosed nextFence isOpen hasFence stillOpen fenceTwice allowedLength usable lowestFree placeOf setAside
+    Calls.refused Calls.freshNumber Calls.freshBy Calls.wallNeeds Calls.openNumber Calls.pickedFence Calls.openBy
+    Calls.isReply Calls.replyNumber Calls.counted Calls.countAfter Calls.recordAfter Calls.answerOf Calls.replyAt
+    Calls.replyBy Calls.heardOf sendFor sending
 of-walls =
-    refl & refl & refl
-    & refl & refl & refl & refl & refl & refl & refl
-    & refl & refl & refl & refl & refl & refl & refl & refl & refl
-    & refl & refl & refl & refl & refl & refl & refl & refl
-    & refl & refl
+    refl & refl & refl & refl & refl & refl & refl & refl & refl & refl
+    & refl & refl & refl & refl & refl & refl & refl & refl & refl & refl
+    & refl & refl & refl & refl & refl & refl & refl & refl & refl & refl
+    & refl & refl & refl & refl & refl & refl & refl & refl & refl & refl
+    & refl & refl & refl & refl & refl & refl & refl & refl & refl & refl
+    & refl & refl & refl & refl & refl & refl
     & tt
 
 returns : tie.Need-returns

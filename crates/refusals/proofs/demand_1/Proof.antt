@@ -28,7 +28,7 @@ use Rattle.refusals.specs.Refusals.{imageVersionCall, manifestVersionCal
 use Rattle.refusals.specs.Refusals.{directoryFiguresCall, entryFiguresCall, hucFiguresCall, imageFiguresCall}
 use Rattle.refusals.specs.Refusals.{manifestFiguresCall}
 use Rattle.refusals.specs.Refusals.{openCall, operationCall, packCall, tests, unpackCall}
-use Rattle.refusals.specs.Refusals.{freshCall, openRequestCall, replyDwordsCall, replyMessageCall}
+use Rattle.refusals.specs.Refusals.{freshCall, replyDwordsCall, replyMessageCall, sendRequestCall}
 use Rattle.refusals.proofs.Sends.{send-look, send-move, send-publish, send-whole}
 use Rattle.refusals.proofs.Receives.{opening-refused, receive-look, receive-move, receive-publish, receive-whole}
 use Rattle.refusals.proofs.Lowest.{accepts, allRise, exactly, firstJudged, firstOf, rising}
@@ -37,8 +37,8 @@ use Rattle.refusals.proofs.Rows.{receives-whole, send-looks, send-moves
 use Rattle.refusals.proofs.Files.{alone, directory-number, entry-number, huc-number}
 use Rattle.refusals.proofs.Files.{image-number, location-refused, manifest-number, packs}
 use Rattle.refusals.proofs.Files.{reading-refused, refused-nothing, seek-number, unpacks}
-use Rattle.refusals.proofs.Walls.{fresh-number, fresh-refused, open-number, open-refused}
-use Rattle.refusals.proofs.Walls.{received-number, reply-number, reply-refused}
+use Rattle.refusals.proofs.Walls.{fresh-number, fresh-refused, received-number, reply-number, reply-refused}
+use Rattle.refusals.proofs.Requests.{send-number, send-refused}
 use Rattle.refusals.proofs.demand_1.Statement.{statement}
 use Rattle.refusals.proofs.demand_1.Tie as tie
 
@@ -122,10 +122,10 @@ rise (directoryFiguresCall blob) = refl
 rise (entryFiguresCall blob i) = refl
 rise (manifestFiguresCall blob) = refl
 rise (hucFiguresCall blob) = refl
-rise (freshCall t last) = refl
-rise (openRequestCall t last action) = refl
-rise (replyMessageCall t last m) = refl
-rise (replyDwordsCall t last dwords) = refl
+rise (freshCall w n) = refl
+rise (sendRequestCall w room m s d b) = refl
+rise (replyMessageCall w m) = refl
+rise (replyDwordsCall w dwords) = refl
 
 number : (x : PublicCall) → numberOf x ≡ firstJudged (tests x)
 unfolding openBy Cpd.entriesOf cssReading hucReading manifestReading reading
@@ -149,10 +149,10 @@ number (directoryFiguresCall blob) = directory-code blob ∙ directory-number bl
 number (entryFiguresCall blob i) = entry-code blob i ∙ entry-number blob i ∙ alone _
 number (manifestFiguresCall blob) = manifest-code blob ∙ manifest-number blob
 number (hucFiguresCall blob) = huc-code blob ∙ huc-number blob
-number (freshCall t last) = fresh-number t last
-number (openRequestCall t last action) = open-number t last action
-number (replyMessageCall t last m) = reply-number t last m
-number (replyDwordsCall t last dwords) = received-number t dwords last
+number (freshCall w n) = fresh-number w n
+number (sendRequestCall w room m s d b) = send-number w room m s d b
+number (replyMessageCall w m) = reply-number w m
+number (replyDwordsCall w dwords) = received-number w dwords
 
 left : (x : PublicCall) → (numberOf x ≡ 0 → ⊥) → LeftBy x
 unfolding LeftBy Cpd.entriesOf cssReading hucReading manifestReading
@@ -179,10 +179,10 @@ left (directoryFiguresCall blob) z = directory-missing blob .missing z
 left (entryFiguresCall blob i) z = entry-missing blob i .missing z
 left (manifestFiguresCall blob) z = manifest-missing blob .missing z
 left (hucFiguresCall blob) z = huc-missing blob .missing z
-left (freshCall t last) z = fresh-refused t last z
-left (openRequestCall t last action) z = open-refused t last action z
-left (replyMessageCall t last m) z = reply-refused t last (some m) z
-left (replyDwordsCall t last dwords) z = reply-refused t last (unpack dwords) z
+left (freshCall w n) z = fresh-refused w n z
+left (sendRequestCall w room m s d b) z = send-refused w room m s d b z
+left (replyMessageCall w m) z = reply-refused w (some m) z
+left (replyDwordsCall w dwords) z = reply-refused w (unpack dwords) z
 
 demand1 : Demand1
 unfolding openBy
