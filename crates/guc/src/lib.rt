@@ -20,8 +20,8 @@ pub fn both_ways()
 // The version of the interface, in the name too: an object that was compiled with a header of another version does not
 // link.
 #[no_mangle]
-pub extern "C" fn guc_interface_2() -> u32
+pub extern "C" fn guc_interface_3() -> u32
     ensures { λ r. ⌜ r ≡ interface ⌝ }
 {
-    2
+    3
 }

@@ -6,6 +6,7 @@ pub mod KeptCall
 pub mod Records
 pub mod ReplyPassed
 pub mod SendCalls
+pub mod SendPassed
 pub mod Sendings
 pub mod Shared
 pub mod SharedRef
