@@ -94,17 +94,12 @@ module _ (words rooms : List ℕ) (i sum : ℕ) {total : ℕ} (same : length wor
     unfolding recordsWith
     next = let k : i < length rooms = omega arith in rw (add-one i, drop-cons words i 0, drop-cons rooms i 0)
 
-    pub aside-more :
-        isOpen (recordOf (getD words i 0)) ≡ true
-        → sum + getD rooms i 0 + setAside (recordsWith (drop (i + 1) words) (drop (i + 1) rooms)) ≡ total
+    pub aside-next :
+        sum + cond (isOpen (recordOf (getD words i 0))) (getD rooms i 0) 0
+        + setAside (recordsWith (drop (i + 1) words) (drop (i + 1) rooms))
+        ≡ total
     unfolding setAside recordWith isOpen
-    aside-more o = omega (arith, rw (next, o) at e)
-
-    pub aside-passed :
-        isOpen (recordOf (getD words i 0)) ≡ false
-        → sum + setAside (recordsWith (drop (i + 1) words) (drop (i + 1) rooms)) ≡ total
-    unfolding setAside recordWith isOpen
-    aside-passed o = omega (arith, rw (next, o) at e)
+    aside-next = omega (arith, rw next at e)
 
   pub aside-ended : length words ≤ i → sum ≡ total
   unfolding setAside recordsWith

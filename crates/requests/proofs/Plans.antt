@@ -1,12 +1,12 @@
 -- What a plan is, by the tests of its table. Assumes nothing.
-use Prim.Native.Nat.{ℕ, _+_, _-_, _%_, _≤_, _<_}
+use Prim.Native.Nat.{ℕ, _+_, _-_, _%_, _≤_}
 use mathlib.Core.Path.{_≡_, refl}
 use mathlib.Core.Bool.{true, false, _&&_, and-false}
 use mathlib.Core.List.{List}
 use native.Mathlib.Omega.{arith}
 use lib.ListN.{length, getD}
-use borrow.Author.Tests.{leb-true, lt-ltb, le-ltb, lt-leb, le-leb, ne-eqb, eqb-true}
-use lib.Dec.{leb, eqb}
+use borrow.Author.Tests.{leb-true, ne-eqb, eqb-true}
+use lib.Dec.{leb, ltb, eqb}
 use Rattle.message.specs.Header.{actionOf}
 use Rattle.message.proofs.Tests.{and-l, and-r, cases}
 use Rattle.ring.specs.Ring.{allowed}
@@ -58,29 +58,32 @@ module _ (t : List Record) (last : ℕ) {n : ℕ} (kind fence : ℕ) (s : length
 module _ (t : List Record) (s : State) where
   -- an opening
   module _ (room action : ℕ) where
-    pub plan-full : length t ≤ lowestFree t → openPlan t s room action ≡ refusedPlan 26 (length t) (s .last)
+    -- 26, then 28
+    abbrev pub openCode : ℕ
+    openCode = need (ltb (lowestFree t) (length t)) 26 (need (leb (setAside t + room) (s .n - 1)) 28 0)
+
+    pub plan-unopened : (openCode ≡ 0 → ⊥) → openPlan t s room action ≡ refusedPlan openCode (length t) (s .last)
+    unfolding openPlan need
+    plan-unopened h =
+        cases (ltb (lowestFree t) (length t))
+        (λ f. cases (leb (setAside t + room) (s .n - 1)) (λ r. absurd (h (rw (f, r)))) (λ r. rw (f, r)))
+        (λ f. rw f)
+
+    pub plan-free :
+        openCode ≡ 0
+        → let fence = nextFence (stillOpen t) (s .last) in
+        openPlan t s room action
+        ≡ record {
+          at = lowestFree t;
+          stored = openRecord fence action room;
+          answer = record { code = 0; kind = 0; fence = fence; action = 0; count = 0 };
+          was = s .last;
+          last = fence;
+        }
     unfolding openPlan
-    plan-full h = rw (le-ltb (lowestFree t) (length t) h)
-
-    module _ (h : lowestFree t < length t) where
-      pub plan-no-room :
-          s .n - 1 < setAside t + room → openPlan t s room action ≡ refusedPlan 28 (length t) (s .last)
-      unfolding openPlan
-      plan-no-room l = rw (lt-ltb (lowestFree t) (length t) h, lt-leb (setAside t + room) (s .n - 1) l)
-
-      pub plan-free :
-          setAside t + room ≤ s .n - 1
-          → let fence = nextFence (stillOpen t) (s .last) in
-          openPlan t s room action
-          ≡ record {
-            at = lowestFree t;
-            stored = openRecord fence action room;
-            answer = record { code = 0; kind = 0; fence = fence; action = 0; count = 0 };
-            was = s .last;
-            last = fence;
-          }
-      unfolding openPlan
-      plan-free l = rw (lt-ltb (lowestFree t) (length t) h, le-leb (setAside t + room) (s .n - 1) l)
+    plan-free h =
+        let rest = passed-rest (ltb (lowestFree t) (length t)) 26 (need (leb (setAside t + room) (s .n - 1)) 28 0) 0 refl h in
+        rw (passed (ltb (lowestFree t) (length t)) 26 _ 0 refl h, passed (leb (setAside t + room) (s .n - 1)) 28 0 0 refl rest)
 
   -- what is asked of a table
   module _ (n : ℕ) (a : Ask) where

@@ -1,12 +1,12 @@
 // A table's words judged: which records are open, with which fences, and which fence is next. Nothing here is lent the
 // table itself.
 ghost use mathlib.Core.Path.{_≡_};
-ghost use mathlib.Core.Bool.{false};
+ghost use mathlib.Core.Bool.{false, cond};
 ghost use Prim.Native.Nat.{_≤_};
 ghost use lib.ListN.{length};
 ghost use Rattle.requests.specs.Fence.{nextFence};
-ghost use Rattle.requests.specs.Table.{stillOpen, fenceTwice, lowestFree, placeOf, setAside};
-ghost use Rattle.requests.specs.Words.{records, recordsWith};
+ghost use Rattle.requests.specs.Table.{isOpen, stillOpen, fenceTwice, lowestFree, placeOf, setAside};
+ghost use Rattle.requests.specs.Words.{recordOf, records, recordsWith};
 ghost use Rattle.requests.specs.Private.{Marked};
 use crate::fence::after;
 use crate::record::fence_of;
@@ -90,6 +90,14 @@ pub(crate) fn next_fence(words: &[u64], flags: &[u8; FLAGS], last: u16) -> u16
     fence
 }
 
+// What one record has set aside: nothing where it is free, whatever it holds.
+fn aside_of(word: u64, room: u16) -> u32
+    ensures { λ r. ⌜ r ≡ cond (isOpen (recordOf word)) room 0 ⌝ }
+{
+    let kept = room as u32;
+    if is_open(word) { kept } else { 0 }
+}
+
 // The dwords set aside by all open records. There are at most 256 of them, each with at most 65,535, so that the sum is far
 // below 32 bits.
 pub(crate) fn set_aside(words: &[u64], rooms: &[u16]) -> u32
@@ -97,12 +105,10 @@ pub(crate) fn set_aside(words: &[u64], rooms: &[u16]) -> u32
     ensures { λ r. ⌜ (r ≡ setAside (recordsWith (now (words .entry)) (now (rooms .entry)))) × (r ≤ 16776960) ⌝ }
 {
     let mut sum: u32 = 0;
-    let mut i: usize = 0;
-    while i < words.len() {
-        if is_open(words[i]) {
-            sum = sum + rooms[i] as u32;
-        }
-        i = i + 1;
+    let mut counted: usize = 0;
+    while counted < words.len() {
+        sum = sum + aside_of(words[counted], rooms[counted]);
+        counted = counted + 1;
     }
     sum
 }

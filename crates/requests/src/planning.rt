@@ -20,6 +20,7 @@ use crate::record::allowed;
 use crate::record::record_of;
 use crate::refusal;
 use crate::state::State;
+use ring::need;
 
 // What a call answers: a number, then an opening's fence, or a reply's kind with the request's action and count. What a
 // call has no part in is 0, and on a refusal all but the number is.
@@ -81,12 +82,16 @@ fn plan_open(
     ensures { λ r. ⌜ r ≡ openPlan (recordsWith (now (words .entry)) (now (rooms .entry))) state room action ⌝ }
 {
     let at = lowest_free(words);
-    if at == words.len() {
-        return refuse(refusal::TABLE_FULL, at, state.last);
-    }
     let most = state.n as u32 - 1;
-    if most < set_aside(words, rooms) + room as u32 {
-        return refuse(refusal::NO_REPLY_ROOM, words.len(), state.last);
+    let free = at < words.len();
+    let fits = set_aside(words, rooms) + room as u32 <= most;
+    let code = need(
+        free,
+        refusal::TABLE_FULL,
+        need(fits, refusal::NO_REPLY_ROOM, 0),
+    );
+    if code != 0 {
+        return refuse(code, words.len(), state.last);
     }
     let fence = next_fence(words, flags, state.last);
     Plan {

@@ -9,9 +9,9 @@ use Rattle.requests.specs.Table.{freeRecord}
 use Rattle.stage.specs.declared.walls.Aged.{Aged}
 use Rattle.stage.specs.declared.walls.Wall.{Wall}
 
--- 'A fresh .. record is free and all zeros; the last fence starts at 65,535.'
+-- 'A fresh .. record is free and all zeros; the last fence starts at 65,535.' The reply buffer has 1,024 dwords.
 unfoldable pub freshWall : Wall
-freshWall = record { table = replicate 6 freeRecord; last = firstLast ∷ [] }
+freshWall = record { table = replicate 6 freeRecord; words = firstLast ∷ 1024 ∷ [] }
 
 -- an age without its sign, and whether that is below 0 (`negsuc n` is -(n + 1)): 0 is not older
 unfoldable pub asRead : ℤ → Aged

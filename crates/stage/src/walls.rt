@@ -1,21 +1,29 @@
-// A wall of six players, by value: a table of six records and the last fence. A scene passes it from call to call.
+// A wall of six players, by value: a table of six records and the wall's two words. A scene passes it from call to call. The
+// channel that a request goes through is lent.
 ghost use mathlib.Core.Path.{_≡_};
-ghost use lib.ListN.{getD};
+ghost use Rattle.side.specs.Words.{stateOf};
 ghost use Rattle.requests.specs.Fence.{age};
-ghost use Rattle.requests.specs.Calls.{given, calling};
+ghost use Rattle.requests.specs.Calls.{wallOf, given, replying};
+ghost use Rattle.requests.specs.Opening.{sending};
+ghost use Rattle.wall.specs.Sent.{sentIn};
 ghost use Rattle.stage.specs.Walls.{freshWall, asRead};
 use requests::Answer;
-use requests::Ask;
 use requests::FIRST_LAST;
+use requests::Heard;
 use requests::Record;
 use requests::WALL_WORDS;
+use ring::DESCRIPTOR_DWORDS;
+use side::STATE_WORDS;
 
 // How many requests the players can have open at once.
 pub const PLAYERS: usize = 6;
 
+// How many dwords the buffer has in which their replies come.
+pub const REPLY_N: u16 = 1024;
+
 pub struct Wall {
     pub table: [Record; PLAYERS],
-    pub last: [u16; WALL_WORDS],
+    pub words: [u16; WALL_WORDS],
 }
 
 // What a call answers, and the wall after it.
@@ -34,32 +42,76 @@ pub fn fresh_wall() -> Wall
             fence: 0,
             action: 0,
             count: 0,
+            room: 0,
         }; PLAYERS],
-        last: [FIRST_LAST; WALL_WORDS],
+        words: [FIRST_LAST, REPLY_N],
     }
 }
 
-// The library's own call, on a copy of a table and a state.
-fn call_on(table: [Record; PLAYERS], last: [u16; WALL_WORDS], ask: Ask) -> Called
-    ensures { λ r. ⌜ given (r .answer) (r .wall .table) (r .wall .last) ≡ calling table (getD last 0 0) ask ⌝ }
+// The library's own reply, on a copy of a table.
+fn reply_on(table: [Record; PLAYERS], words: [u16; WALL_WORDS], heard: Heard) -> Called
+    ensures { λ r. ⌜ given (r .answer) (r .wall .table) (r .wall .words) ≡ replying (wallOf table words) heard ⌝ }
 {
     let mut t = table;
-    let mut l = last;
-    let answer = wall::call(&mut l, &mut t, ask);
+    let l = words;
+    let answer = wall::reply(&l, &mut t, heard);
     Called {
         answer,
-        wall: Wall { table: t, last: l },
+        wall: Wall { table: t, words: l },
     }
 }
 
-// Does what is asked.
-pub fn wall_call(w: Wall, ask: Ask) -> Called
+// A reply, as it was received.
+pub fn wall_reply(w: Wall, heard: Heard) -> Called
     ensures { λ r.
-        ⌜ given (r .answer) (r .wall .table) (r .wall .last) ≡ calling (w .table) (getD (w .last) 0 0) ask ⌝ }
+        ⌜ given (r .answer) (r .wall .table) (r .wall .words) ≡ replying (wallOf (w .table) (w .words)) heard ⌝ }
 {
     let table = w.table;
-    let last = w.last;
-    call_on(table, last, ask)
+    let words = w.words;
+    reply_on(table, words, heard)
+}
+
+// The library's own send, on copies of a table and a state.
+fn send_on(
+    table: [Record; PLAYERS],
+    words: [u16; WALL_WORDS],
+    sender: &mut [u32; STATE_WORDS],
+    desc: &mut [u32; DESCRIPTOR_DWORDS],
+    buf: &mut [u32],
+    msg: &[u32],
+    room: u32,
+) -> Called
+    ensures { λ r.
+        ⌜ sentIn (r .answer) (r .wall .table) (r .wall .words) (now (sender .exit)) (now (desc .exit)) (now (buf .exit))
+        ≡ sending (wallOf table words) room (now (msg .entry)) (stateOf (now (sender .entry))) (now (desc .entry))
+        (now (buf .entry)) ⌝ }
+{
+    let mut t = table;
+    let mut l = words;
+    let answer = wall::send(&mut l, &mut t, sender, desc, buf, msg, room);
+    Called {
+        answer,
+        wall: Wall { table: t, words: l },
+    }
+}
+
+// A request, sent through the channel that is lent.
+pub fn wall_send(
+    w: Wall,
+    sender: &mut [u32; STATE_WORDS],
+    desc: &mut [u32; DESCRIPTOR_DWORDS],
+    buf: &mut [u32],
+    msg: &[u32],
+    room: u32,
+) -> Called
+    ensures { λ r.
+        ⌜ sentIn (r .answer) (r .wall .table) (r .wall .words) (now (sender .exit)) (now (desc .exit)) (now (buf .exit))
+        ≡ sending (wallOf (w .table) (w .words)) room (now (msg .entry)) (stateOf (now (sender .entry))) (now (desc .entry))
+        (now (buf .entry)) ⌝ }
+{
+    let table = w.table;
+    let words = w.words;
+    send_on(table, words, sender, desc, buf, msg, room)
 }
 
 // The age of a fence as a person reads it: so much older than the newest, or newer.
