@@ -35,11 +35,14 @@ struct way {
 // A reader of firmware images and directories, by the rows of firmware.c.
 enum { JUDGE, LOCATE, COPY, FEW, MANY, ALIKE, READS };
 struct reader { const char *name; block read[READS]; struct reader *next; };
-// A keeper of a wall of requests: a row's openings and busy replies at a table of L records, and one call at so many of them.
+// A keeper of a wall of requests: a row's sends and busy replies at a table of L records, and one call at so many of them. start: its
+// sender is made for a ring of N, idle, its own offset at that.
 struct keeper {
     const char *name;
-    block open, reply;
-    struct told (*open_one)(size_t records, uint16_t action), (*reply_one)(size_t records, const uint32_t *msg, size_t len);
+    void (*start)(uint32_t at);
+    block send, reply;
+    struct told (*send_one)(size_t records, const uint32_t *msg, size_t len, uint32_t room);
+    struct told (*reply_one)(size_t records, const uint32_t *msg, size_t len);
     struct keeper *next;
 };
 

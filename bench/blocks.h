@@ -1,5 +1,5 @@
 // The loops around what is measured, the same for every way. A file says what a receive answers (RECEIVED), then BLOCKS for each way.
-// Those of a wall go by its one opening and one reply.
+// Those of a wall go by its one send and one reply.
 #ifndef BLOCKS_H
 #define BLOCKS_H
 #include "bench.h"
@@ -52,15 +52,17 @@
 #define READ_BLOCK(v, CALL) __attribute__((noinline)) static uint32_t v(size_t k) { \
     uint32_t bad = 0; for (size_t i = 0; i < k; i++) { __asm__ volatile("" ::: "memory"); bad |= CALL; } return bad; }
 
-// Openings into the last record, which the harness frees again, and busy replies to eight requests in turn.
-#define WALL_BLOCKS(OPEN, REPLY) \
-    __attribute__((noinline)) static uint32_t open_block(size_t k) { \
+// Sends of eight requests in turn into the last record, which the harness frees again, playing a reader that takes each message at once;
+// and busy replies to eight requests in turn.
+#define WALL_BLOCKS(SEND, ANSWER) \
+    __attribute__((noinline)) static uint32_t wall_send_block(size_t k) { \
         uint32_t bad = 0; \
         for (size_t i = 0; i < k; i++) { \
-            bad |= opened(OPEN(L, 7), L, i); requests.table[L - 1] = (struct request){0, 0, 0, 0}; } \
+            bad |= opened(SEND(L, requests.asked[i % 8], ASKED, REPLY), L, i); \
+            requests.table[L - 1] = (struct request){0, 0, 0, 0, 0}; page.desc[0] = page.desc[1]; } \
         return bad; } \
     __attribute__((noinline)) static uint32_t reply_block(size_t k) { \
         uint32_t bad = 0; \
-        for (size_t i = 0; i < k; i++) { const uint32_t *m = requests.replies[i % 8]; bad |= replied(REPLY(L, m, 2), m); } \
+        for (size_t i = 0; i < k; i++) { const uint32_t *m = requests.replies[i % 8]; bad |= replied(ANSWER(L, m, 2), m); } \
         return bad; }
 #endif

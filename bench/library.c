@@ -126,13 +126,16 @@ READ_BLOCK(judge_block, judge()) READ_BLOCK(locate_block, locate()) READ_BLOCK(c
 READ_BLOCK(few_block, find(&few)) READ_BLOCK(many_block, find(&many)) READ_BLOCK(alike_block, find(&alike))
 static struct reader library_reader = {WHO ":reader", {judge_block, locate_block, copy_block, few_block, many_block, alike_block}, 0};
 
-#define WALL ((struct guc_wall *)&requests.last)
+#define WALL ((struct guc_wall *)&requests.shared)
 #define TABLE ((struct guc_record *)requests.table)
 static struct told told(struct guc_wall_answer a) { return (struct told){a.code, a.kind, a.fence, a.action, a.count}; }
-static struct told open_one(size_t records, uint16_t action) { return told(guc_wall_open(WALL, TABLE, records, action)); }
+static struct told send_one(size_t records, const uint32_t *m, size_t len, uint32_t reply)
+{
+    return told(guc_wall_send(WALL, TABLE, records, SENDER, DESC, buf, N, m, len, reply));
+}
 static struct told reply_one(size_t records, const uint32_t *m, size_t len) { return told(guc_wall_reply(WALL, TABLE, records, m, len)); }
-WALL_BLOCKS(open_one, reply_one)
-static struct keeper library_keeper = {WHO ":wall", open_block, reply_block, open_one, reply_one, 0};
+WALL_BLOCKS(send_one, reply_one)
+static struct keeper library_keeper = {WHO ":wall", words_start, wall_send_block, reply_block, send_one, reply_one, 0};
 
 __attribute__((constructor)) static void enlist_library(void)
 {

@@ -46,10 +46,13 @@ READ_BLOCK(few_block, find(&few)) READ_BLOCK(many_block, find(&many)) READ_BLOCK
 // Judging and finding are one pass for it.
 static struct reader plain_reader = {WHO ":reader", {locate_block, locate_block, copy_block, few_block, many_block, alike_block}, 0};
 
-static struct told open_one(size_t records, uint16_t action) { return wall_open(&requests.last, requests.table, records, action); }
-static struct told reply_one(size_t records, const uint32_t *m, size_t len) { return wall_reply(requests.table, records, m, len); }
-WALL_BLOCKS(open_one, reply_one)
-static struct keeper plain_keeper = {WHO ":wall", open_block, reply_block, open_one, reply_one, 0};
+static struct told send_one(size_t records, const uint32_t *m, size_t len, uint32_t reply)
+{
+    return wall_send(&requests.shared, requests.table, records, TX, m, len, reply);
+}
+static struct told reply_one(size_t records, const uint32_t *m, size_t len) { return wall_reply(&requests.shared, requests.table, records, m, len); }
+WALL_BLOCKS(send_one, reply_one)
+static struct keeper plain_keeper = {WHO ":wall", start, wall_send_block, reply_block, send_one, reply_one, 0};
 
 __attribute__((constructor)) static void enlist_plain(void)
 {

@@ -3,13 +3,15 @@ import re
 import sys
 
 SIZES, LENGTHS, RECORDS = (1024, 16384), (2, 16, 256), (16, 256)
+CALLS = {'wall_send': 1024, 'wall_reply': 0}  # of a wall, and the ring that each is measured with
+ASKED = 16                                    # dwords of the requests that a wall sends
 WORDS = {'send': 'send', 'receive': 'receive', 'turn': 'send, then receive', 'straight': '%s, straight',
          'around': '%s, around the end', 'one_left': '%s, one place left before the end',
          'judge': 'image: judge, find uCode (two calls)',
          'locate': 'image: find uCode (one call)', 'image': 'image: copy uCode out',
          'few': 'directory: find the last of 16 entries', 'many': 'directory: find the last of 4,096 entries',
          'alike': 'directory: the same, names alike in eleven bytes',
-         'wall_open': 'wall of %d: open a request', 'wall_reply': 'wall of %d: a busy reply'}
+         'wall_send': 'wall of %d: send a request', 'wall_reply': 'wall of %d: a busy reply'}
 # Columns of the table of one archive, and the row of the table of all: who, and beside which plain C.
 COLUMNS = [('guc:two', 'two words'), ('guc:words', '260 words'), ('inl:wrap', '(a)'), ('lib:wrap', '(a) call'),
            ('inl:runs', '(b)'), ('lib:runs', '(b) call'), ('lib:plain', '(c)')]
@@ -19,8 +21,8 @@ PLAIN = {'lib': '(b) call', 'moves': '(b) call, no SSE', 'rep': '(b) call, no SS
 # At most so many instructions: of the two-word side and of the 260-word side as a multiple of (b) call's, of a dword stored and a dword
 # copied in steps.
 LIMITS = {'libguc': (2.15, 3.7, 80, 57), 'fast': (1.4, 3.0, 80, 57), 'v3': (1.4, 2.0, 80, 57), 'kernel-moves': (1.2, 2.8, 80, 57)}
-# Of a wall's calls of any archive: an opening or a reply as a multiple of plain C's at 16 and at 256 records, and a reply at 256 records
-# as one of a reply at 16. At 16 most of it is the 2,048 bytes that are zeroed for the table's copy, by 8 at a time in a kernel.
+# Of a wall's calls of any archive: a send or a reply as a multiple of plain C's at 16 and at 256 records, and a reply at 256 records
+# as one of a reply at 16. At 16 most of it is the bytes that are zeroed for the table's copy, by 8 at a time in a kernel.
 WALL_LIMITS = 3.5, 2, 20
 counts, times = {}, {}
 
@@ -56,10 +58,15 @@ def row(what, n, l, label, names):
 
 
 def wall_numbers(numbers, who, plain):
-    # The most of plain C's that an opening or a reply takes at 16 and at 256 records, and how a reply grows.
-    most = [max(numbers[what, 0, l, who + ':wall'] / numbers[what, 0, l, plain + ':wall'] for what in ('wall_open', 'wall_reply'))
+    # The most of plain C's that a send or a reply takes at 16 and at 256 records, and how a reply grows.
+    most = [max(numbers[what, n, l, who + ':wall'] / numbers[what, n, l, plain + ':wall'] for what, n in CALLS.items())
             for l in RECORDS]
     return *most, growth(numbers, who)
+
+
+def walls_part(numbers, who, side, l):
+    # What a send through a wall of l records takes beside the same send alone, by the side that the wall sends by.
+    return numbers['wall_send', 1024, l, who + ':wall'] - numbers['send', 1024, ASKED, who + side]
 
 
 def growth(numbers, who):
@@ -68,11 +75,11 @@ def growth(numbers, who):
 
 
 def wall_rows():
-    for what in ('wall_open', 'wall_reply'):
+    for what, n in CALLS.items():
         for l in RECORDS:
-            base = what, 0, l, 'lib:wall'
-            cells = [cell((what, 0, l, name), base) for name in ('guc:wall', 'inl:wall', 'lib:wall')]
-            line(WORDS[what] % l, '-', '-', '-', cells[0], '-', '-', *cells[1:], '-')
+            base = what, n, l, 'lib:wall'
+            cells = [cell((what, n, l, name), base) for name in ('guc:wall', 'inl:wall', 'lib:wall')]
+            line(WORDS[what] % l, n or '-', ASKED if n else 2, '-', cells[0], '-', '-', *cells[1:], '-')
 
 
 def table():
@@ -82,7 +89,7 @@ def table():
     print('Rows that say where a message lies (straight, around the end) have every message there; in the rows above them the ring')
     print('goes round, and one message in a round passes its end.')
     print('In the image, directory and wall rows the plain C that does the same stands in the (b) columns. A wall of so many records has all of')
-    print('them open, or all but the one that is opened.\n')
+    print('them open, or all but the one that is taken.\n')
     line('what', 'N', 'dwords', *(title for _, title in COLUMNS))
     print('|---' * (3 + len(COLUMNS)) + '|')
     for what in ('send', 'receive', 'turn'):
@@ -107,6 +114,10 @@ def table():
     for what, words in (('store', 'stored'), ('copy', 'copied')):
         key = what, 1024, 16, 'guc:steps'
         print('One dword %s in steps: %.1f ns, %.1f instructions.' % (words, times[key], counts[key]))
+    for l in RECORDS:
+        parts = [(walls_part(of, 'guc', ':words', l), walls_part(of, 'lib', ':runs', l)) for of in (times, counts)]
+        print('A send of %d dwords through a wall of %d records: beside guc_send alone %.0f ns, %.0f instructions; plain C\'s wall %.0f ns, %.0f.'
+              % (ASKED, l, parts[0][0], parts[1][0], parts[0][1], parts[1][1]))
     print('A reply at 256 records takes %.1f times the time of one at 16, plain C\'s %.1f times.' % (growth(times, 'guc'), growth(times, 'lib')))
 
 
@@ -141,14 +152,16 @@ def all_archives():
         if ('store', 1024, 16, who + ':steps') in times:
             steps = ['%.1f %.1f' % (times[key], counts[key]) for key in ((what, 1024, 16, who + ':steps') for what in ('store', 'copy'))]
             line(archive, *steps, cell(('few', 0, 0, who + ':reader'), ('few', 0, 0, plain + ':reader')))
-    print('\nA wall of 16 and of 256 records (ratio to plain C in the same run), and a reply at 256 against one at 16:\n')
-    line('archive', *('%s %d' % (what, l) for what in ('open', 'reply') for l in RECORDS), 'reply 256 / 16')
-    print('|---' * 6 + '|')
+    print('\nA wall of 16 and of 256 records (ratio to plain C in the same run), what a send of %d dwords takes beside guc_send alone (ns,' % ASKED)
+    print('instructions), and a reply at 256 against one at 16:\n')
+    line('archive', *('%s %d' % (what, l) for what in ('send', 'reply') for l in RECORDS), *("wall's part %d" % l for l in RECORDS),
+         'reply 256 / 16')
+    print('|---' * 8 + '|')
     for who, archive, plain in ARCHIVES:
         if ('wall_reply', 0, 16, who + ':wall') in times:
-            cells = [cell((what, 0, l, who + ':wall'), (what, 0, l, plain + ':wall'))
-                     for what in ('wall_open', 'wall_reply') for l in RECORDS]
-            line(archive, *cells, '%.1f' % growth(times, who))
+            cells = [cell((what, n, l, who + ':wall'), (what, n, l, plain + ':wall')) for what, n in CALLS.items() for l in RECORDS]
+            parts = ['%.0f %.0f' % (walls_part(times, who, ':words', l), walls_part(counts, who, ':words', l)) for l in RECORDS]
+            line(archive, *cells, *parts, '%.1f' % growth(times, who))
 
 
 def check():
@@ -173,7 +186,8 @@ def check_walls():
     for who, archive, plain in ARCHIVES:
         if ('wall_reply', 0, 16, who + ':wall') in counts:
             found = wall_numbers(counts, who, plain)
-            said.append('%s %.2f, %.2f and %.1f' % (archive, *found))
+            parts = [walls_part(counts, who, ':words', l) for l in RECORDS]
+            said.append('%s %.2f, %.2f and %.1f (a send\'s part %.0f and %.0f)' % (archive, *found, *parts))
             if any(number > limit for number, limit in zip(found, WALL_LIMITS)):
                 above.append('%s: of a wall at most %.1f, %d and %d' % (archive, *WALL_LIMITS))
     print('bench: instructions of a wall\'s calls against plain C at 16 and at 256 records, and of a reply at 256 against 16: %s' % '; '.join(said))

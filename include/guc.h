@@ -8,9 +8,9 @@
  *
  * Every function is total: it answers any contents and any counts, it never aborts, and it keeps
  * nothing between calls; there is no hidden state and no allocation. Where several numbers apply,
- * the lowest is given, but 22 is tested before 21, the calls of a wall have an order of their own (35
- * before all others), and a part inside a directory is judged only after the directory itself; 101 is
- * judged before all others, 100 after them.
+ * the lowest is given, but 22 is tested before 21, the calls of a wall have an order of their own
+ * (35 before all others), and a part inside a directory is judged only after the directory itself;
+ * 101 is judged before all others, 100 after them.
  *
  * "Changes" below names everything a call may change; the rest stays, also on a refusal.
  *
@@ -90,7 +90,7 @@ static uint32_t (*const guc_interface_linked)(void) GUC_KEPT = guc_interface_3;
 	X(GUC_EMPTY, 11, "nothing pending") \
 	X(GUC_OUT_OF_TURN, 12, "publish before the last dword moved, or a move after it") \
 	X(GUC_MALFORMED, 13, "the message is whole but malformed") \
-	X(GUC_BAD_FIELD, 14, "a field too wide, NUM_DWORDS 0, a name not 1 to 12 bytes without a zero, or more than 256 reply dwords") \
+	X(GUC_BAD_FIELD, 14, "a field too wide, NUM_DWORDS 0, room above 256, or a name not 1 to 12 bytes without a zero") \
 	X(GUC_SHORT_BLOB, 15, "too short for its header") \
 	X(GUC_CSS_SIZES, 16, "the sizes in its header disagree") \
 	X(GUC_CSS_BEYOND, 17, "a part of the image lies beyond its end") \
@@ -361,42 +361,44 @@ GUC_ANSWER struct guc_unpacked guc_unpack(const uint32_t *msg, size_t len);
  *
  * Many requests under way at once: each has a fence of its own and room for its answer set aside, and
  * each reply finds its request. table and records are a table of that many records, 1 to
- * GUC_RECORDS_MAX; table and wall are the caller's, one call at a time. Make the wall fresh once, send
- * requests through guc_wall_send, receive, and hand each received message to guc_wall_reply.
+ * GUC_RECORDS_MAX; table and wall are the caller's, one call at a time. Make the wall fresh once,
+ * send requests through guc_wall_send, receive, and hand each received message to guc_wall_reply.
  *
  * Each call answers 35, before any other number, for another number of records and (but for
  * guc_wall_fresh) for two open records with one fence; then 2 for a reply buffer whose N is not
- * allowed. A send or a reply takes each record into a copy of its own once, judges and uses that, and
- * writes at most one record. */
+ * allowed. A send or a reply takes each record into a copy of its own once, judges and uses that,
+ * and writes at most one record. */
 
-/* Makes a wall fresh, whatever it holds: every record all zeros, the last fence 65,535. reply_n is N of
- * the buffer in which the replies will come.
+/* Makes a wall fresh, whatever it holds: every record all zeros, the last fence 65,535. reply_n is N
+ * of the buffer in which the replies will come.
  * Answers 0, or 35 for another number of records, or 2 for a reply_n that is not allowed.
  * Changes table and wall on 0. */
 GUC_ANSWER uint32_t guc_wall_fresh(struct guc_wall *wall, struct guc_record *table,
     size_t records, size_t reply_n);
 
-/* Sends a request of msg_len dwords whole, as guc_send does, with a fence of the wall's in the place of
- * its own, and keeps a record of it. The fence is the next after wall's last that is not open, counting
- * up and wrapping after 65,535; the record is the lowest free one, with the action of the message, and
- * with so many reply dwords set aside as room says. A reply of that many dwords then finds room, where
- * the reply buffer carries replies alone and a request is closed after its reply is received. A
- * message's first two dwords are read once, and no dword twice: what is judged is what is sent.
- * Answers 0 and the fence, or, tested in this order, 35, 2 (wall's N), 14 (room is above 256), 27 (the
- * message is malformed, or of another type than request), 26 (every record is open), 28 (what all open
- * requests have set aside plus room exceeds wall's N - 1), or the ring's own, as guc_send gives it: 2
- * (n), 3, 6, 7, 8 or 10. It never answers 4.
+/* Sends a request of msg_len dwords whole, as guc_send does, with a fence of the wall's in the place
+ * of its own, and keeps a record of it. The fence is the next after wall's last that is not open,
+ * counting up and wrapping after 65,535; the record is the lowest free one, with the action of the
+ * message, and with so many reply dwords set aside as room says. A reply then finds room in the reply
+ * buffer where that carries nothing but replies to open requests, and where those to each request
+ * that lie there unread, busy ones too, take with it no more than its room. No dword of the message is
+ * read twice: what is judged is what is sent. Where another processor reads the ring, use
+ * guc_live_wall_send.
+ * Answers 0 and the fence, or, tested in this order, 35, 2 (wall's N), 14 (room is above 256), 27
+ * (the message is malformed, or of another type than request), 26 (every record is open), 28 (what
+ * all open requests have set aside plus room exceeds wall's N - 1), or the ring's own, as guc_send
+ * gives it: 2 (n), 3, 6, 7, 8 or 10. It never answers 4.
  * Changes that record, wall, s, TAIL and the ring on 0; STATUS on 7 and 8. */
 GUC_ANSWER struct guc_wall_answer guc_wall_send(struct guc_wall *wall, struct guc_record *table,
     size_t records, struct guc_sender *s, struct guc_descriptor *desc, uint32_t *ring, size_t n,
     const uint32_t *msg, size_t msg_len, uint32_t room);
 
 /* Matches a received message of msg_len dwords to the open request with its fence. Success, failure
- * and retry close it, and with it end what was set aside (after retry the request is to be sent again,
- * as a new one); busy adds one to its count, which stops at 65,535, and leaves it open. The origin is
- * not asked.
- * Answers 0 with the kind, the request's action and its count, or 35, 2 (wall's N), 4 (malformed) or 27
- * (no open request has the fence, or the message is a request, an event or a fast request).
+ * and retry close it, which ends what was set aside for it (after retry the request is to be sent
+ * again, as a new one); busy adds one to its count, which stops at 65,535, and leaves it open. The
+ * origin is not asked.
+ * Answers 0 with the kind, the request's action and its count, or 35, 2 (wall's N), 4 (malformed) or
+ * 27 (no open request has the fence, or the message is a request, an event or a fast request).
  * Changes that record on 0; wall stays. */
 GUC_ANSWER struct guc_wall_answer guc_wall_reply(const struct guc_wall *wall,
     struct guc_record *table, size_t records, const uint32_t *msg, size_t msg_len);

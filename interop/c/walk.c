@@ -72,8 +72,8 @@ static void opening(void)
 	CHECK(memcmp(&ch.desc, zeros, sizeof(ch.desc)) == 0 && ch.ring[0] == 0xA5A5A5A5u);
 	CHECK(guc_sender_own(&ch.sender) == 0 && guc_receiver_own(&ch.receiver) == 0);
 	CHECK(guc_sender_len(&ch.sender) == 0 && guc_receiver_moved(&ch.receiver) == 0);
-	CHECK(guc_interface_2() == GUC_INTERFACE);
-	printf("open: N 1000 2, then 0; interface %u\n", (unsigned)guc_interface_2());
+	CHECK(guc_interface_3() == GUC_INTERFACE);
+	printf("open: N 1000 2, then 0; interface %u\n", (unsigned)guc_interface_3());
 }
 
 /* A send whole, a receive in steps. */

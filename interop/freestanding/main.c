@@ -1,6 +1,6 @@
 // A program with no C library at all, linked with libguc.a: two channels that another processor could read and write meanwhile
-// (guc_live.h), one with two-word sides and whole calls, one in steps; and a wall of requests whose replies come out of order. It prints
-// what came back. x86-64 Linux; see docs/INTEGRATION.md.
+// (guc_live.h), one with two-word sides and whole calls, one in steps; and a wall of requests, sent with room set aside for their answers,
+// whose replies come out of order. It prints what came back. x86-64 Linux; see docs/INTEGRATION.md.
 #include "guc_live.h"
 
 enum { N = 1024, WRITE = 1, EXIT = 60 };
@@ -96,7 +96,7 @@ static void steps(void)
 static void put_reply(struct guc_wall *w, struct guc_record *table, uint32_t fence, uint32_t type)
 {
     const uint32_t reply[2] = {fence << 16 | 1, 0x80000000 | type << 28};
-    struct guc_wall_answer a = guc_wall_reply(w, table, 3, reply, 2);
+    struct guc_wall_answer a = guc_wall_reply(w, table, 4, reply, 2);
     put_answer(", reply ", a.code);
     if (a.code) return;
     put_answer(" kind ", a.kind);
@@ -106,14 +106,23 @@ static void put_reply(struct guc_wall *w, struct guc_record *table, uint32_t fen
 
 static void wall(void)
 {
+    static const uint32_t rooms[6] = {256, 256, 256, 256, 255, 0}; // of 1023 in all
     static struct guc_wall w;
-    static struct guc_record table[3];
-    put_answer("fresh ", guc_wall_fresh(&w, table, 3));
-    for (uint16_t action = 11; action <= 44; action += 11) {
-        struct guc_wall_answer a = guc_wall_open(&w, table, 3, action);
-        put_answer(", open ", a.code);
+    static struct guc_record table[4];
+    static struct guc_sender s;
+    static struct guc_receiver r;
+    uint32_t request[2] = {0x12340001, 0};
+    put_answer("open ", guc_open(&s, &r, &desc, ring, N));
+    put_answer(", fresh ", guc_wall_fresh(&w, table, 4, N));
+    for (int k = 0; k < 6; k++) {
+        request[1] = 11 * (k + 1);
+        struct guc_wall_answer a = guc_live_wall_send(&w, table, 4, &s, &desc, ring, N, request, 2, rooms[k]);
+        put_answer(", send ", a.code);
         if (!a.code) put_answer(" fence ", a.fence);
     }
+    put_answer("; TAIL ", desc.tail);
+    put_received(", receive ", guc_live_receive(&r, &desc, ring, N, out, GUC_MESSAGE_DWORDS));
+    put_received(", receive ", guc_live_receive(&r, &desc, ring, N, out, GUC_MESSAGE_DWORDS));
     put("\n");
     put_answer("last ", w.last);
     put_reply(&w, table, 2, GUC_TYPE_BUSY);
@@ -122,7 +131,8 @@ static void wall(void)
     put_reply(&w, table, 1, GUC_TYPE_SUCCESS); // a stray one: that request is closed
     put_reply(&w, table, 0, GUC_TYPE_EVENT);
     put_reply(&w, table, 0, GUC_TYPE_RETRY);
-    put_answer(", open fence ", guc_wall_open(&w, table, 3, 11).fence);
+    put_answer(", send fence ", guc_live_wall_send(&w, table, 4, &s, &desc, ring, N, request, 2, 256).fence);
+    put_answer(" room ", table[0].room);
     put_answer(", older by ", (uint32_t)-guc_wall_age(0, w.last));
     put("\n");
 }

@@ -27,7 +27,7 @@ uint32_t use_firmware(struct uses *u);
 
 uint32_t use_whole(struct uses *u)
 {
-	uint32_t sum = guc_interface_2() - GUC_INTERFACE;
+	uint32_t sum = guc_interface_3() - GUC_INTERFACE;
 
 	sum += guc_open(&u->sender, &u->receiver, &u->desc, u->ring, GUC_RING_MIN);
 	sum += guc_send(&u->sender, &u->desc, u->ring, GUC_RING_MIN, u->msg, 2);
@@ -100,12 +100,17 @@ uint32_t use_wall(struct uses *u)
 	struct guc_wall_answer a;
 	uint32_t sum = 0;
 
-	sum += guc_wall_fresh(&u->wall, u->table, GUC_RECORDS_MAX);
-	a = guc_wall_open(&u->wall, u->table, GUC_RECORDS_MAX, 0x10);
+	sum += guc_wall_fresh(&u->wall, u->table, GUC_RECORDS_MAX, GUC_RING_MIN);
+	a = guc_wall_send(&u->wall, u->table, GUC_RECORDS_MAX, &u->sender, &u->desc, u->ring, GUC_RING_MIN,
+			  u->msg, 2, GUC_REPLY_DWORDS_MAX);
+	sum += a.code + a.fence;
+	a = guc_live_wall_send(&u->wall, u->table, GUC_RECORDS_MAX, &u->sender, &u->desc, u->ring,
+			       GUC_RING_MIN, u->msg, 2, 0);
 	sum += a.code + a.fence;
 	a = guc_wall_reply(&u->wall, u->table, GUC_RECORDS_MAX, u->msg, 2);
 	sum += a.code + a.kind + a.action + a.count;
 	sum += 0u + u->table[0].open + u->table[0].fence + u->table[0].action + u->table[0].count;
+	sum += 0u + u->table[0].room + u->wall.n;
 	return sum + (guc_wall_age(u->wall.last, GUC_FIRST_LAST) < 0);
 }
 

@@ -125,27 +125,43 @@ static void blob(void)
 }
 
 static struct guc_record table[2];
-static struct guc_wall last;
+static struct guc_wall shared;
 
 static uint32_t reply_now(void)
 {
-	return guc_wall_reply(&last, table, 2, ch.msg, 2).code;
+	return guc_wall_reply(&shared, table, 2, ch.msg, 2).code;
+}
+
+/* A request of two dwords, by a channel that is put back before each. */
+static uint32_t opened_now(uint32_t room)
+{
+	static const uint32_t request[2] = { 1, 7 };
+
+	open_at(0);
+	reset_channel();
+	return guc_wall_send(&shared, table, 2, &ch.now.sender, ch.desc, ch.ring, N, request, 2, room).code;
 }
 
 static void wall(void)
 {
 	ch.msg[0] = 1u << 16 | 1; /* fence 1, busy */
 	ch.msg[1] = 0x30000000u;
-	expect(guc_wall_fresh(&last, table, 2), GUC_OK, "table");
+	expect(guc_wall_fresh(&shared, table, 2, N), GUC_OK, "table");
 	expect(reply_now(), GUC_NO_REQUEST, "reply to nothing");
-	expect(guc_wall_open(&last, table, 2, 7).code, GUC_OK, "opening");
-	expect(guc_wall_open(&last, table, 2, 8).code, GUC_OK, "second opening");
+	expect(opened_now(1), GUC_OK, "opening");
+	table[0].room = N - 1;
+	expect(opened_now(1), GUC_NO_REPLY_ROOM, "what is set aside rewritten");
+	table[0].room = N - 2;
+	shared.n = 1000;
+	expect(opened_now(1), GUC_BAD_BUFFER, "N rewritten");
+	shared.n = N;
+	expect(opened_now(1), GUC_OK, "second opening");
 	expect(reply_now(), GUC_OK, "reply");
 	table[0].fence = 1;
 	expect(reply_now(), GUC_BAD_TABLE, "record rewritten");
-	expect(guc_wall_open(&last, table, 2, 9).code, GUC_BAD_TABLE, "the same, opened");
+	expect(opened_now(1), GUC_BAD_TABLE, "the same, opened");
 	table[0].fence = 0;
-	expect(guc_wall_open(&last, table, 2, 9).code, GUC_TABLE_FULL, "record put back, opened");
+	expect(opened_now(0), GUC_TABLE_FULL, "record put back, opened");
 	ch.msg[1] = 0x40000000u;
 	expect(reply_now(), GUC_BAD_MESSAGE, "reply rewritten");
 	ch.msg[1] = 0x70000000u;

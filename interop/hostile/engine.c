@@ -289,7 +289,8 @@ int main(int argc, char **argv)
 	run(send_scenes, &seed);
 	run(receive_scenes, &seed);
 	run(blob_scenes, &seed);
-	run(wall_scenes, &seed);
+	run(reply_scenes, &seed);
+	run(wall_send_scenes, &seed);
 	afresh = judged_afresh();
 	printf("same bytes rewritten between two calls: %lu not judged afresh\n", afresh);
 	printf("hostile writers: %lu calls, %lu bad, %d scenes by touch without a race\n", all_calls,

@@ -27,6 +27,9 @@ static inline struct guc_received live_call(const struct trial *t, struct world 
 		got.code = guc_live_send_store_all(w->sender, w->desc, ring, t->n);
 	else if (t->call == SEND_PUBLISH)
 		got.code = guc_live_send_publish(w->sender, w->desc, ring, t->n);
+	else if (t->call == WALL_SEND)
+		got = wall_answer(guc_live_wall_send(w->wall, w->table, t->records, w->sender, w->desc, ring, t->n,
+						     t->msg, t->msg_len, t->reply_dwords));
 	else if (t->call == RECEIVE)
 		got = guc_live_receive(w->receiver, w->desc, ring, t->n, out, t->out_len);
 	else if (t->call == RECEIVE_LOOK)

@@ -126,7 +126,7 @@ static unsigned written_by(uint32_t code)
 
 	if (code == GUC_OVERFLOW || code == GUC_MISMATCH || code == GUC_UNDERFLOW)
 		return STATUS;
-	if (code == GUC_OK && (c == WHOLE_SEND || c == SEND || c == SEND_PUBLISH))
+	if (code == GUC_OK && (c == WHOLE_SEND || c == SEND || c == SEND_PUBLISH || c == WALL_SEND))
 		return TAIL;
 	if ((code == GUC_OK || code == GUC_MALFORMED) &&
 	    (c == WHOLE_RECEIVE || c == RECEIVE || c == RECEIVE_PUBLISH))

@@ -15,6 +15,8 @@ static void lend_world(struct world *w)
 	w->whole_receiver = lent(sizeof(*w->whole_receiver));
 	w->sender = lent(sizeof(*w->sender));
 	w->receiver = lent(sizeof(*w->receiver));
+	w->wall = lent(sizeof(*w->wall));
+	w->table = lent(RECORDS * sizeof(*w->table));
 	w->room_end = (uint32_t *)lent(4 * RING_ROOM) + RING_ROOM;
 	w->out_end = (uint32_t *)lent(4 * OUT_ROOM) + OUT_ROOM;
 }
@@ -26,6 +28,8 @@ static void copy_world(struct world *to, const struct world *from, size_t n)
 	*to->whole_receiver = *from->whole_receiver;
 	*to->sender = *from->sender;
 	*to->receiver = *from->receiver;
+	*to->wall = *from->wall;
+	memcpy(to->table, from->table, RECORDS * sizeof(*to->table));
 	memcpy(ring_of(to, n), ring_of(from, n), 4 * n);
 }
 
@@ -79,6 +83,8 @@ static enum call pick_call(struct walk *k, uint64_t r)
 		return (enum call)(SEND + (r >> 8) % (CALLS - SEND));
 	len = r & 1 ? guc_sender_len(s) : guc_receiver_len(v);
 	moved = r & 1 ? guc_sender_moved(s) : guc_receiver_moved(v);
+	if (len == 0 && (r & 1) && (r >> 9 & 1))
+		return WALL_SEND;
 	if (len == 0)
 		return (enum call)((r & 1 ? SEND : RECEIVE) + (r >> 8 & 1));
 	if (moved < len) /* singly for a while, then all */
@@ -95,6 +101,8 @@ static void lay_lent(struct walk *k, uint64_t r)
 
 	memset(made, 0, sizeof(made));
 	t->msg_len = make_message(r, r >> 16, made);
+	if (t->call == WALL_SEND && (r >> 24 & 7))
+		made[1] &= 0x8FFFFFFFu; /* a request */
 	if ((r & 7) == 0)
 		made[0] ^= 1u << (r >> 8 & 15);
 	else if ((r & 7) == 1)
@@ -151,6 +159,8 @@ void lay_trial(struct walk *k)
 	k->trial.call = pick_call(k, r >> 8);
 	k->trial.n = (r >> 4 & 15) == 0 ? sizes[r >> 40 & 7] : k->n;
 	lay_lent(k, next_random(&k->x));
+	if (k->trial.call == WALL_SEND)
+		lay_wall(k, next_random(&k->x));
 	r = next_random(&k->x);
 	k->undo = 0;
 	if ((r & 3) == 0) {
@@ -175,6 +185,9 @@ struct guc_received plain_call(const struct trial *t, struct world *w)
 	case SEND_STORE: got.code = guc_send_store(w->sender, w->desc, ring, t->n); break;
 	case SEND_STORE_ALL: got.code = guc_send_store_all(w->sender, w->desc, ring, t->n); break;
 	case SEND_PUBLISH: got.code = guc_send_publish(w->sender, w->desc, ring, t->n); break;
+	case WALL_SEND:
+		return wall_answer(guc_wall_send(w->wall, w->table, t->records, w->sender, w->desc, ring, t->n,
+						 t->msg, t->msg_len, t->reply_dwords));
 	case RECEIVE: return guc_receive(w->receiver, w->desc, ring, t->n, out, t->out_len);
 	case RECEIVE_LOOK: got.code = guc_receive_look(w->receiver, w->desc, ring, t->n); break;
 	case RECEIVE_COPY: got.code = guc_receive_copy(w->receiver, w->desc, ring, t->n); break;
@@ -196,6 +209,8 @@ static const char *difference(const struct walk *k)
 	    memcmp(a->sender, b->sender, sizeof(*a->sender)) ||
 	    memcmp(a->receiver, b->receiver, sizeof(*a->receiver)))
 		return "side";
+	if (memcmp(a->wall, b->wall, sizeof(*a->wall)) || memcmp(a->table, b->table, RECORDS * sizeof(*a->table)))
+		return "wall";
 	if (memcmp(ring_of(a, n), ring_of(b, n), 4 * n))
 		return "ring";
 	if (memcmp(out_of(a, OUT_ROOM), out_of(b, OUT_ROOM), 4 * OUT_ROOM))
@@ -226,7 +241,7 @@ const char *call_name(enum call call)
 {
 	static const char *const names[CALLS] = {
 		"whole_send", "whole_receive", "send", "send_look", "send_store", "send_store_all",
-		"send_publish", "receive", "receive_look", "receive_copy", "receive_copy_all",
+		"send_publish", "wall_send", "receive", "receive_look", "receive_copy", "receive_copy_all",
 		"receive_publish",
 	};
 
@@ -235,10 +250,11 @@ const char *call_name(enum call call)
 
 void end_walk(const struct walk *k)
 {
-	/* x at each answer that the header names */
+	/* x at each answer that the header names, from 0 on */
 	static const char *const named[CALLS] = {
 		"x-xxx-xxx-x---", "x-xx-xxxxx-x-x", "x-xxx-xxx-x---", "x-xxx-xxx-x---",
-		"x-xx--------x-", "x-xx----------", "x-xx--------x-", "x-xx-xxxxx-x-x",
+		"x-xx--------x-", "x-xx----------", "x-xx--------x-",
+		"x-xx--xxx-x---x-----------xxx------x", "x-xx-xxxxx-x-x",
 		"x-xx--xxxx-x--", "x-xx--------x-", "x-xx----------", "x-xx-x------xx",
 	};
 	unsigned call, code;
@@ -247,7 +263,7 @@ void end_walk(const struct walk *k)
 		for (code = 0; code < CODES; code++) {
 			unsigned long met = k->met[call][code];
 
-			if ((named[call][code] == 'x') != (met > 0))
+			if ((code < strlen(named[call]) && named[call][code] == 'x') != (met > 0))
 				bad("guc_%s answered %u %lu times", call_name((enum call)call), code, met);
 		}
 }

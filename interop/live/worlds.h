@@ -16,6 +16,7 @@ enum call {
 	SEND_STORE,
 	SEND_STORE_ALL,
 	SEND_PUBLISH,
+	WALL_SEND,
 	RECEIVE,
 	RECEIVE_LOOK,
 	RECEIVE_COPY,
@@ -24,7 +25,8 @@ enum call {
 	CALLS
 };
 
-#define CODES 14
+#define CODES 36
+#define RECORDS 4u
 #define RING_ROOM (17u * 1024) /* dwords: more than a ring may have */
 #define OUT_ROOM 300u
 
@@ -35,6 +37,8 @@ struct world {
 	struct guc_whole_receiver *whole_receiver;
 	struct guc_sender *sender;
 	struct guc_receiver *receiver;
+	struct guc_wall *wall;
+	struct guc_record *table; /* RECORDS of them */
 	uint32_t *room_end; /* RING_ROOM dwords before it; a ring ends there */
 	uint32_t *out_end;  /* OUT_ROOM dwords before it; an output ends there */
 };
@@ -42,8 +46,9 @@ struct world {
 /* The call of a trial, but for its world. */
 struct trial {
 	enum call call;
-	size_t n, msg_len, out_len;
+	size_t n, msg_len, out_len, records;
 	const uint32_t *msg;
+	uint32_t reply_dwords;
 };
 
 struct walk {
@@ -74,6 +79,19 @@ static inline int is_move(enum call c)
 }
 
 const char *call_name(enum call call);
+
+/* A wall's table, for a trial that sends through it: both worlds' alike (walls.c). */
+void lay_wall(struct walk *k, uint64_t r);
+
+/* What a wall's send answers, all of it in the two numbers that other calls answer. */
+static inline struct guc_received wall_answer(struct guc_wall_answer a)
+{
+	struct guc_received got = { a.code, a.fence };
+
+	if (a.kind || a.action || a.count)
+		bad("a wall's send answered kind %u, action %u, count %u", a.kind, a.action, a.count);
+	return got;
+}
 
 void begin_walk(struct walk *k, uint64_t seed);
 void lay_trial(struct walk *k);

@@ -24,7 +24,7 @@ MOST = 1.5
 JUDGED = ('ring.header', 'ring.second')
 MESSAGE = JUDGED + ('ring.rest',)
 LEFT = ('ring.left',)
-SENDS = ('guc_send', 'guc_whole_send', 'guc_send_store_all')
+SENDS = ('guc_send', 'guc_whole_send', 'guc_wall_send', 'guc_send_store_all')
 RECEIVES = ('guc_receive', 'guc_whole_receive', 'guc_receive_copy_all')
 
 

@@ -1,28 +1,29 @@
 /*
- * A wall's calls: accepted and refused by each number, at tables of 1 to 256
- * records, whose fences differ in their low eight bits or are alike in them.
+ * A wall's calls: made fresh, and replies, accepted and refused by each number, at
+ * tables of 1 to 256 records, whose fences differ in their low eight bits or are
+ * alike in them. Its sends are in wall_sends.c.
  */
-#include "loads.h"
+#include "walls.h"
 
 #include <string.h>
 
-enum { OUTSIDE = 8, MANY = 17, MOST = GUC_RECORDS_MAX, NONE = 999, LENGTH = 5 };
+enum { OUTSIDE = 8, LENGTH = 5, REPLY_N = 2048 };
 
-/* Records before and behind the table, which no call may touch; 257 for a table too long. */
+/* 257 records for a table too long. */
 static _Alignas(8) struct guc_record memory[OUTSIDE + MOST + 1 + OUTSIDE];
-static struct guc_record *const table = memory + OUTSIDE;
-static struct guc_wall wall;
+struct guc_record *const table = memory + OUTSIDE;
+struct guc_wall wall;
+size_t records;
+int alike;
 static uint32_t msg[LENGTH];
-static size_t records, msg_len;
-static int alike; /* fences are alike in their low eight bits */
+static size_t msg_len;
 
 static uint16_t fence_of(size_t k)
 {
 	return (uint16_t)(alike ? 5 + 256 * k : 65400 + k);
 }
 
-/* So many records, all open; any number but 0 says so. */
-static void lay(size_t count)
+void lay_wall(size_t count)
 {
 	size_t k;
 
@@ -33,8 +34,10 @@ static void lay(size_t count)
 		table[k].fence = fence_of(k);
 		table[k].action = (uint16_t)(0x100 + k);
 		table[k].count = (uint16_t)k;
+		table[k].room = (uint16_t)(k % 8);
 	}
 	wall.last = (uint16_t)(fence_of(count > MANY ? count - 3 : 0) - 1); /* the next is open */
+	wall.n = REPLY_N;
 }
 
 /* A reply to record hit, or one that nobody waits for, alike to record 0's in its low bits. */
@@ -48,75 +51,59 @@ static void lay_reply(uint32_t type, size_t hit)
 	msg[1] = 0x80000000u | type << 28 | 0x0ABCDEF;
 }
 
-/* Free, with a fence that an open record has too, where there is one. */
-static void lay_free(size_t k)
+void lay_free(size_t k)
 {
 	table[k].open = 0;
 	table[k].fence = fence_of(k ? k - 1 : records - 1);
+	table[k].room = 65535;
 }
 
-/* Open and fence are judged, action and count are not. */
-static void lent_record(const char *judged, const char *rest, size_t k)
+/* Names of a record's words, in the order of enum about; made here, since the run that is traced makes none. */
+static const struct names {
+	const char *judged, *rest, *room, *unused;
+} names[] = {
+	{ "record.judged", "record.else", "record.room", "record.unused" },
+	{ "hit.judged", "hit.else", "hit.room", "hit.unused" },
+	{ "taken.judged", "taken.else", "taken.room", "taken.unused" },
+	{ "pair.judged", "pair.else", "pair.room", "pair.unused" },
+};
+
+/* Of a free record nobody asks but whether it is. */
+static void lent_record(const struct names *n, size_t k)
 {
-	lent(judged, &table[k].open, 4);
-	lent(rest, &table[k].action, 4);
+	int open = table[k].open;
+
+	lent(n->judged, &table[k].open, 2);
+	lent(open ? n->judged : n->unused, &table[k].fence, 2);
+	lent(n->rest, &table[k].action, 4);
+	lent(open ? n->room : n->unused, &table[k].room, 2);
 }
 
-/* Records one and other are what the call is about: taken, hit or a pair. Of
- * another number of records than a table has nothing is looked at. */
-static void lent_wall(const char *judged, const char *rest, size_t one, size_t other)
+void lent_wall(enum about what, size_t one, size_t other)
 {
 	size_t k;
 
-	lent("wall", &wall.last, sizeof(wall.last));
+	lent("wall.last", &wall.last, sizeof(wall.last));
+	lent("wall.n", &wall.n, sizeof(wall.n));
 	lent("table.outside", memory, OUTSIDE * sizeof(*table));
 	lent("table.outside", table + records, OUTSIDE * sizeof(*table));
 	if (records > MOST)
 		lent("table.refused", table, records * sizeof(*table));
 	for (k = 0; k < records && records <= MOST; k++) {
-		if (k == one || k == other)
-			lent_record(judged, rest, k);
-		else
-			lent_record("record.judged", "record.else", k);
+		lent_record(names + (k == one || k == other ? what : RECORD), k);
 	}
 }
 
-static void fresh(uint32_t answer, size_t count)
+static void fresh(uint32_t answer, size_t count, size_t reply_n)
 {
 	uint32_t code;
 
-	lay(count);
+	lay_wall(count);
 	calling("guc_wall_fresh", answer, "");
-	lent_wall("record.judged", "record.else", NONE, NONE);
+	lent_wall(RECORD, NONE, NONE);
 	begin();
-	code = guc_wall_fresh(&wall, table, records);
+	code = guc_wall_fresh(&wall, table, records, reply_n);
 	end(code);
-}
-
-/* What is laid, opened; record free is the lowest free one. */
-static void opened(uint32_t answer, size_t free, size_t pair, const char *note)
-{
-	uint32_t code;
-
-	calling("guc_wall_open", answer, note);
-	if (answer == GUC_BAD_TABLE)
-		lent_wall("pair.judged", "pair.else", pair, free);
-	else
-		lent_wall("taken.judged", "taken.else", free, NONE);
-	begin();
-	code = guc_wall_open(&wall, table, records, 0x777).code;
-	end(code);
-}
-
-/* From record free on each third is free. */
-static void opening(size_t count, size_t free)
-{
-	size_t k;
-
-	lay(count);
-	for (k = free; k < count; k += 3)
-		lay_free(k);
-	opened(free < count ? GUC_OK : GUC_TABLE_FULL, free, NONE, alike ? "alike" : "apart");
 }
 
 /* What is laid, replied to: by record hit, or where that and another are a pair. */
@@ -126,9 +113,9 @@ static void replied(uint32_t answer, size_t hit, size_t pair, const char *note)
 
 	calling("guc_wall_reply", answer, note);
 	if (answer == GUC_BAD_TABLE)
-		lent_wall("pair.judged", "pair.else", pair, hit);
+		lent_wall(PAIR, pair, hit);
 	else
-		lent_wall("hit.judged", "hit.else", hit, NONE);
+		lent_wall(HIT, hit, NONE);
 	lent("header", msg, 4 * (msg_len > 0));
 	lent("second", msg + 1, 4 * (msg_len > 1));
 	lent("rest", msg + 2, 4 * (msg_len > 2 ? msg_len - 2 : 0));
@@ -140,27 +127,28 @@ static void replied(uint32_t answer, size_t hit, size_t pair, const char *note)
 
 static void reply(size_t count, size_t hit, uint32_t type)
 {
-	lay(count);
+	lay_wall(count);
 	if (hit < count && hit > 2)
 		lay_free(hit / 2);
 	lay_reply(type, hit);
 	replied(hit == NONE ? GUC_NO_REQUEST : GUC_OK, hit, NONE, alike ? "alike" : "apart");
 }
 
-/* One fence in two open records, found by either call; or a table of no such length. */
+/* One fence in two open records; or a table of no such length. */
 static void bad_tables(size_t count, size_t one, size_t other, const char *note)
 {
-	lay(count);
+	lay_wall(count);
 	lay_reply(GUC_TYPE_BUSY, NONE);
 	if (other < count) {
 		table[other].fence = table[one].fence;
 		if (count > 3)
 			lay_free(count / 2);
 	}
-	opened(GUC_BAD_TABLE, one, other, note);
 	replied(GUC_BAD_TABLE, one, other, note);
 	msg[1] = 0x40000000u;
 	replied(GUC_BAD_TABLE, one, other, "before the message is judged");
+	wall.n = 0;
+	replied(GUC_BAD_TABLE, one, other, "before N is judged");
 }
 
 static void bad_replies(size_t count)
@@ -170,11 +158,11 @@ static void bad_replies(size_t count)
 	size_t k;
 
 	for (k = 0; k < 3; k++) {
-		lay(count);
+		lay_wall(count);
 		lay_reply(none[k], 0);
 		replied(GUC_NO_REQUEST, 0, NONE, "no reply");
 	}
-	lay(count);
+	lay_wall(count);
 	table[count - 1].open = 0;
 	lay_reply(GUC_TYPE_SUCCESS, count - 1);
 	replied(GUC_NO_REQUEST, NONE, NONE, "of a free record");
@@ -188,6 +176,10 @@ static void bad_replies(size_t count)
 	replied(GUC_BAD_MESSAGE, 0, NONE, "header");
 	lay_reply(4, 0);
 	replied(GUC_BAD_MESSAGE, 0, NONE, "type");
+	wall.n = 1000;
+	replied(GUC_BAD_BUFFER, 0, NONE, "before the message is judged");
+	lay_reply(GUC_TYPE_SUCCESS, 0);
+	replied(GUC_BAD_BUFFER, 0, NONE, "N");
 }
 
 /* Every record that may be the one, at ends and in the middle. */
@@ -198,14 +190,12 @@ static void calls_at(size_t count)
 	const size_t places[3] = { 0, count / 2, count - 1 };
 	size_t k;
 
-	opening(count, count);
 	for (k = 0; k < 3; k++) {
-		opening(count, places[k]);
 		reply(count, places[k], types[k]);
 		reply(count, places[k], types[(k + 1) % 4]);
 	}
 	reply(count, NONE, types[k]);
-	lay(count);
+	lay_wall(count);
 	table[count - 1].count = 65535;
 	lay_reply(GUC_TYPE_BUSY, count - 1);
 	replied(GUC_OK, count - 1, NONE, "a count that stops");
@@ -217,16 +207,17 @@ void wall_calls(void)
 	size_t k;
 
 	for (k = 0; k < sizeof(counts) / sizeof(counts[0]); k++) {
-		fresh(GUC_OK, counts[k]);
+		fresh(GUC_OK, counts[k], 1024);
+		fresh(GUC_BAD_BUFFER, counts[k], 1000);
 		for (alike = 0; alike < 2; alike++)
 			calls_at(counts[k]);
 		alike = 0;
 		bad_replies(counts[k]);
 	}
-	fresh(GUC_OK, MOST);
+	fresh(GUC_OK, MOST, 16384);
 	calls_at(MOST);
-	fresh(GUC_BAD_TABLE, 0);
-	fresh(GUC_BAD_TABLE, MOST + 1);
+	fresh(GUC_BAD_TABLE, 0, 1024);
+	fresh(GUC_BAD_TABLE, MOST + 1, 1024);
 	bad_tables(0, NONE, NONE, "none");
 	bad_tables(MOST + 1, NONE, NONE, "too many");
 	bad_tables(2, 0, 1, "pair");
@@ -235,4 +226,5 @@ void wall_calls(void)
 	alike = 1;
 	bad_tables(MANY, 15, 16, "pair");
 	alike = 0;
+	wall_send_calls();
 }

@@ -3,7 +3,9 @@
  * diverts each memcpy of the archive to hook_memcpy below; while one runs, the
  * descriptor and the side's N and own offset must still be the old ones, the copy
  * must lie within what was lent, and no dword that the call judges may be copied:
- * that would be its second read.
+ * that would be its second read. Of a wall's send that is so of what goes into the
+ * ring, and table and wall are the old ones too; a record goes into the table after
+ * TAIL has moved.
  */
 #include "guc.h"
 
@@ -17,13 +19,13 @@
 void *hook_memcpy(void *to, const void *from, size_t bytes);
 
 enum call {
-	SEND, WHOLE_SEND, SEND_LOOK, STORE_ALL,
+	SEND, WHOLE_SEND, WALL_SEND, SEND_LOOK, STORE_ALL,
 	RECEIVE, WHOLE_RECEIVE, COPY_ALL, RECEIVE_PUBLISH,
 	OTHER
 };
 
 static const char *const called[OTHER] = {
-	"guc_send", "guc_whole_send", "guc_send_look", "guc_send_store_all",
+	"guc_send", "guc_whole_send", "guc_wall_send", "guc_send_look", "guc_send_store_all",
 	"guc_receive", "guc_whole_receive", "guc_receive_copy_all", "guc_receive_publish",
 };
 
@@ -35,13 +37,21 @@ static struct guc_descriptor desc;
 static uint32_t ring[N], msg[GUC_MESSAGE_DWORDS], out[GUC_MESSAGE_DWORDS];
 static size_t len; /* of the message at hand */
 
+/* A wall of requests, each of which is answered before the next one is sent. */
+enum { RECORDS = 8 };
+static struct walled {
+	struct guc_wall wall;
+	struct guc_record table[RECORDS];
+} walled;
+
 /* The call that runs, and what it found. */
 static struct {
 	enum call call;
 	struct guc_descriptor desc;
 	uint32_t two[2]; /* the side's N and own offset */
 	const uint32_t *side;
-} now = { OTHER, { 0, 0, 0, { 0 } }, { 0, 0 }, NULL };
+	struct walled walled;
+} now = { OTHER, { 0, 0, 0, { 0 } }, { 0, 0 }, NULL, { { 0, 0 }, { { 0, 0, 0, 0, 0 } } } };
 
 static unsigned long calls[OTHER], runs[OTHER], bad;
 
@@ -79,7 +89,7 @@ static void judge_places(const void *to, const void *from, size_t bytes)
 	struct span source = in_ring, target = in_ring;
 
 	switch (now.call) {
-	case SEND: case WHOLE_SEND: source = message; break;
+	case SEND: case WHOLE_SEND: case WALL_SEND: source = message; break;
 	case SEND_LOOK: source = message; target = copy; break;
 	case STORE_ALL: source = copy; break;
 	case RECEIVE: case WHOLE_RECEIVE: target = output; break;
@@ -96,7 +106,7 @@ static void judge_judged(const void *from, size_t bytes)
 	uint32_t own = now.two[1];
 
 	switch (now.call) {
-	case SEND: case WHOLE_SEND: case SEND_LOOK:
+	case SEND: case WHOLE_SEND: case WALL_SEND: case SEND_LOOK:
 		if (touches(from, bytes, msg) || touches(from, bytes, msg + 1))
 			wrong("a judged dword of the message is read again");
 		break;
@@ -113,10 +123,25 @@ static void judge_judged(const void *from, size_t bytes)
 	}
 }
 
+/* Whether a copy of a wall's send goes into the ring; others may copy records out of the table as they like. */
+static int into_ring(void *to, size_t bytes)
+{
+	struct span in_ring = { ring, N };
+	uintptr_t at = (uintptr_t)to, start = (uintptr_t)&walled;
+
+	if (now.call != WALL_SEND || within(to, bytes, in_ring))
+		return 1;
+	if (at - start < sizeof(walled) && desc.tail == now.desc.tail)
+		wrong("the table changes before TAIL does");
+	return 0;
+}
+
 void *hook_memcpy(void *to, const void *from, size_t bytes)
 {
-	if (now.call != OTHER && bytes) {
+	if (now.call != OTHER && bytes && into_ring(to, bytes)) {
 		runs[now.call]++;
+		if (memcmp(&walled, &now.walled, sizeof(walled)))
+			wrong("the table or the last fence changes before the copy is done");
 		if (memcmp(&desc, &now.desc, sizeof(desc)))
 			wrong("the descriptor changes before the copy is done");
 		if (memcmp(now.side, now.two, sizeof(now.two)))
@@ -131,6 +156,7 @@ void *hook_memcpy(void *to, const void *from, size_t bytes)
 static void begin(enum call call, const void *side)
 {
 	now.desc = desc;
+	now.walled = walled;
 	memcpy(now.two, side, sizeof(now.two));
 	now.side = side;
 	now.call = call;
@@ -146,8 +172,27 @@ static void must(int so, const char *what)
 	exit(2);
 }
 
+/* By the wall: the fence is its own, and the reply closes the request at once. */
+static void wall_send(void)
+{
+	uint32_t done[2] = { 1, 0x70000000u };
+	struct guc_wall_answer a;
+
+	begin(WALL_SEND, &s);
+	a = guc_wall_send(&walled.wall, walled.table, RECORDS, &s, &desc, ring, N, msg, len, 256);
+	must(a.code == GUC_OK, "guc_wall_send");
+	ws.own = guc_sender_own(&s);
+	msg[0] = (msg[0] & 0xFFFF) | (uint32_t)a.fence << 16;
+	done[0] |= (uint32_t)a.fence << 16;
+	must(guc_wall_reply(&walled.wall, walled.table, RECORDS, done, 2).code == GUC_OK, "guc_wall_reply");
+}
+
 static void send(unsigned how)
 {
+	if (how % 4 == 3) {
+		wall_send();
+		return;
+	}
 	if (how % 3 == 0) {
 		begin(SEND, &s);
 		must(guc_send(&s, &desc, ring, N, msg, len) == GUC_OK, "guc_send");
@@ -206,10 +251,11 @@ int main(void)
 
 	must(guc_open(&s, &r, &desc, ring, N) == GUC_OK, "guc_open");
 	must(guc_whole_open(&ws, &wr, &desc, ring, N) == GUC_OK, "guc_whole_open");
+	must(guc_wall_fresh(&walled.wall, walled.table, RECORDS, N) == GUC_OK, "guc_wall_fresh");
 	for (k = 0; k < ROUNDS; k++) {
 		len = 2 + (size_t)k * 37 % 255;
 		msg[0] = k << 16 | (uint32_t)(len - 1);
-		msg[1] = 0x10000020u;
+		msg[1] = 0x00000020u;
 		for (i = 2; i < len; i++)
 			msg[i] = k * 2654435761u + i;
 		send(k / 7);

@@ -7,8 +7,10 @@ pub mod directories;
 pub mod images;
 pub mod messages;
 pub mod names;
+pub mod orders;
 pub mod places;
 mod records;
+pub mod sends;
 pub mod walls;
 
 use crate::functions::Fun;
@@ -56,7 +58,16 @@ pub enum Edge {
     RecordsNone,
     RecordsMost,
     FenceTwice,
+    LeastReplyN,
+    MostReplyN,
+    NextReplyN,
+    AskedRoom,
+    RequestBelow,
+    RequestAbove,
+    RequestNone,
+    RequestType,
     FreeRecords,
+    SetAside,
     ReplyFence,
     ReplyType,
     Which,
@@ -112,6 +123,7 @@ const CHANNEL: &[Fun] = &[
     WholeOpen,
     WholeSend,
     WholeReceive,
+    WallSend,
 ];
 const WITH_STATE: &[Fun] = &[
     SendLook,
@@ -126,9 +138,10 @@ const WITH_STATE: &[Fun] = &[
     Receive,
     WholeSend,
     WholeReceive,
+    WallSend,
 ];
-const LOOKS: &[Fun] = &[SendLook, Send, WholeSend, ReceiveLook, Receive, WholeReceive];
-const SENDS: &[Fun] = &[SendLook, Send, WholeSend];
+const LOOKS: &[Fun] = &[SendLook, Send, WholeSend, WallSend, ReceiveLook, Receive, WholeReceive];
+const SENDS: &[Fun] = &[SendLook, Send, WholeSend, WallSend];
 const RECEIVES: &[Fun] = &[ReceiveLook, Receive, WholeReceive];
 const MOVES: &[Fun] = &[SendStore, ReceiveCopy];
 const PUBLISHES: &[Fun] = &[SendPublish, ReceivePublish];
@@ -138,8 +151,8 @@ const STORING: &[Fun] = &[SendStore, SendStoreAll, SendPublish];
 const COPYING: &[Fun] = &[ReceiveCopy, ReceiveCopyAll, ReceivePublish];
 const LAYING: &[Fun] = &[ReceivePublish, Receive, WholeReceive];
 const MESSAGES: &[Fun] = &[SendLook, Send, WholeSend, Unpack, WallReply];
-const TABLES: &[Fun] = &[WallFresh, WallOpen, WallReply];
-const JUDGED: &[Fun] = &[WallOpen, WallReply];
+const TABLES: &[Fun] = &[WallFresh, WallSend, WallReply];
+const JUDGED: &[Fun] = &[WallSend, WallReply];
 const PARTS: &[Fun] = &[CssPart, CssCopy, HucPart, HucCopy];
 const COPIES: &[Fun] = &[CssCopy, CpdCopy, HucCopy];
 const IMAGES: &[Fun] =
@@ -161,7 +174,7 @@ const fn row(
 
 /// All of them, in the order of `Edge`.
 #[rustfmt::skip]
-pub const BOUNDARIES: [Boundary; 58] = [
+pub const BOUNDARIES: [Boundary; 67] = [
     row(Edge::LeastN, "N", ["1,023", "1,024"], (2, BELOW), CHANNEL),
     row(Edge::MostN, "N", ["16,384", "16,385"], (2, ABOVE), CHANNEL),
     row(Edge::NextN, "N", ["16,384", "17,408"], (2, ABOVE), CHANNEL),
@@ -198,7 +211,16 @@ pub const BOUNDARIES: [Boundary; 58] = [
     row(Edge::RecordsNone, "records of a table", ["0", "1"], (35, BELOW), TABLES),
     row(Edge::RecordsMost, "records of a table", ["256", "257"], (35, ABOVE), TABLES),
     row(Edge::FenceTwice, "open records of one fence", ["1", "2"], (35, ABOVE), JUDGED),
-    row(Edge::FreeRecords, "free records", ["0", "1"], (26, BELOW), &[WallOpen]),
+    row(Edge::LeastReplyN, "N of the reply buffer", ["1,023", "1,024"], (2, BELOW), TABLES),
+    row(Edge::MostReplyN, "N of the reply buffer", ["16,384", "16,385"], (2, ABOVE), TABLES),
+    row(Edge::NextReplyN, "N of the reply buffer", ["16,384", "17,408"], (2, ABOVE), TABLES),
+    row(Edge::AskedRoom, "reply dwords asked for", ["256", "257"], (14, ABOVE), &[WallSend]),
+    row(Edge::RequestBelow, "the request's dwords", ["L - 1", "L"], (27, BELOW), &[WallSend]),
+    row(Edge::RequestAbove, "the request's dwords", ["L", "L + 1"], (27, ABOVE), &[WallSend]),
+    row(Edge::RequestNone, "the request's NUM_DWORDS", ["0", "1"], (27, BELOW), &[WallSend]),
+    row(Edge::RequestType, "type to open", ["request", "another"], (27, ABOVE), &[WallSend]),
+    row(Edge::FreeRecords, "free records", ["0", "1"], (26, BELOW), &[WallSend]),
+    row(Edge::SetAside, "reply dwords set aside in all", ["N - 1", "N"], (28, ABOVE), &[WallSend]),
     row(Edge::ReplyFence, "open requests replied to", ["0", "1"], (27, BELOW), &[WallReply]),
     row(Edge::ReplyType, "type with an open fence", ["a reply", "another"], (27, ABOVE), &[WallReply]),
     row(Edge::Which, "component", ["3", "4"], (101, ABOVE), PARTS),

@@ -22,7 +22,7 @@ pub enum Fun {
     Pack,
     Unpack,
     WallFresh,
-    WallOpen,
+    WallSend,
     WallReply,
     WallAge,
     CssAnswer,
@@ -41,7 +41,7 @@ pub enum Fun {
 /// Each function with its name and the numbers it can answer. Number 1 is for a
 /// descriptor that C can't lend. The interface's version and an age are no numbers.
 pub const FUNCTIONS: [(Fun, &str, &[u32]); 32] = [
-    (Fun::Interface, "guc_interface_2", &[]),
+    (Fun::Interface, "guc_interface_3", &[]),
     (Fun::Open, "guc_open", &[0, 2]),
     (Fun::SendLook, "guc_send_look", &[0, 2, 3, 4, 6, 7, 8, 10]),
     (Fun::SendStore, "guc_send_store", &[0, 2, 3, 12]),
@@ -58,9 +58,9 @@ pub const FUNCTIONS: [(Fun, &str, &[u32]); 32] = [
     (Fun::WholeReceive, "guc_whole_receive", &[0, 2, 3, 5, 6, 7, 8, 9, 11, 13]),
     (Fun::Pack, "guc_pack", &[0, 14, 101]),
     (Fun::Unpack, "guc_unpack", &[0, 4]),
-    (Fun::WallFresh, "guc_wall_fresh", &[0, 35]),
-    (Fun::WallOpen, "guc_wall_open", &[0, 26, 35]),
-    (Fun::WallReply, "guc_wall_reply", &[0, 4, 27, 35]),
+    (Fun::WallFresh, "guc_wall_fresh", &[0, 2, 35]),
+    (Fun::WallSend, "guc_wall_send", &[0, 2, 3, 6, 7, 8, 10, 14, 26, 27, 28, 35]),
+    (Fun::WallReply, "guc_wall_reply", &[0, 2, 4, 27, 35]),
     (Fun::WallAge, "guc_wall_age", &[]),
     (Fun::CssAnswer, "guc_css_answer", &[0, 15, 16, 17]),
     (Fun::CssPart, "guc_css_part", &[0, 15, 16, 17, 101]),
@@ -92,7 +92,7 @@ use Slice::*;
 
 /// Every slice of every function: each must once be NULL with count 0.
 #[rustfmt::skip]
-pub const SLICES: [(Fun, Slice); 41] = [
+pub const SLICES: [(Fun, Slice); 43] = [
     (Open, Ring), (WholeOpen, Ring),
     (SendLook, Ring), (SendLook, Message),
     (SendStore, Ring), (SendStoreAll, Ring), (SendPublish, Ring),
@@ -101,7 +101,8 @@ pub const SLICES: [(Fun, Slice); 41] = [
     (ReceivePublish, Ring), (ReceivePublish, Output),
     (Receive, Ring), (Receive, Output), (WholeReceive, Ring), (WholeReceive, Output),
     (Unpack, Message),
-    (WallFresh, Table), (WallOpen, Table), (WallReply, Table), (WallReply, Message),
+    (WallFresh, Table), (WallSend, Table), (WallSend, Ring), (WallSend, Message),
+    (WallReply, Table), (WallReply, Message),
     (CssAnswer, Blob), (CssPart, Blob), (CssCopy, Blob), (CssCopy, Destination), (CssVersion, Blob),
     (CpdPart, Blob), (CpdPart, Name), (CpdCopy, Blob), (CpdCopy, Name), (CpdCopy, Destination),
     (ManifestVersion, Blob),
@@ -111,9 +112,9 @@ pub const SLICES: [(Fun, Slice); 41] = [
 /// The numbers that are answers, each with a place. Those from 23 to 35 that are not
 /// here belong to change requests to come.
 #[rustfmt::skip]
-const ANSWERS: [u32; 28] = [
-    0, 1, 2, 3, 4, 5, 6, 7, 8, 9, 10, 11, 12, 13, 14, 15, 16, 17, 18, 19, 20, 21, 22, 26, 27, 35,
-    100, 101,
+const ANSWERS: [u32; 29] = [
+    0, 1, 2, 3, 4, 5, 6, 7, 8, 9, 10, 11, 12, 13, 14, 15, 16, 17, 18, 19, 20, 21, 22, 26, 27, 28,
+    35, 100, 101,
 ];
 
 /// How many they are.

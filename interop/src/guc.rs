@@ -60,7 +60,7 @@ fn at_mut<T>(slice: Out<T>) -> (*mut T, usize) {
 }
 
 pub fn interface() -> u32 {
-    unsafe { raw::guc_interface_2() }
+    unsafe { raw::guc_interface_3() }
 }
 
 pub fn open(s: &mut Sender, r: &mut Receiver, d: &mut Descriptor, ring: In<u32>) -> u32 {
@@ -159,19 +159,24 @@ pub fn unpack(msg: In<u32>) -> Unpacked {
     unsafe { raw::guc_unpack(m, ml) }
 }
 
-pub fn wall_fresh(wall: &mut Wall, table: Out<Record>) -> u32 {
-    let (t, n) = at_mut(table);
-    unsafe { raw::guc_wall_fresh(wall, t, n) }
+pub fn wall_fresh(wall: &mut Wall, table: Out<Record>, reply_n: usize) -> u32 {
+    let (t, records) = at_mut(table);
+    unsafe { raw::guc_wall_fresh(wall, t, records, reply_n) }
 }
 
-pub fn wall_open(wall: &mut Wall, table: Out<Record>, action: u16) -> WallAnswer {
-    let (t, n) = at_mut(table);
-    unsafe { raw::guc_wall_open(wall, t, n, action) }
+pub fn wall_send(
+    (wall, table): (&mut Wall, Out<Record>),
+    (s, d, ring): (&mut Sender, &mut Descriptor, Out<u32>),
+    msg: In<u32>,
+    room: u32,
+) -> WallAnswer {
+    let ((t, records), (b, n), (m, ml)) = (at_mut(table), at_mut(ring), at(msg));
+    unsafe { raw::guc_wall_send(wall, t, records, s, d, b, n, m, ml, room) }
 }
 
-pub fn wall_reply(wall: &mut Wall, table: Out<Record>, msg: In<u32>) -> WallAnswer {
-    let ((t, n), (m, ml)) = (at_mut(table), at(msg));
-    unsafe { raw::guc_wall_reply(wall, t, n, m, ml) }
+pub fn wall_reply(wall: &Wall, table: Out<Record>, msg: In<u32>) -> WallAnswer {
+    let ((t, records), (m, ml)) = (at_mut(table), at(msg));
+    unsafe { raw::guc_wall_reply(wall, t, records, m, ml) }
 }
 
 pub fn wall_age(fence: u16, newest: u16) -> i32 {

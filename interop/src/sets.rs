@@ -2,10 +2,13 @@
 
 use crate::edges::calls::TWO_OWNS;
 use crate::edges::names::{ONCE, SOUGHT, TWICE};
+use crate::edges::orders::{pair_name, pairs, FRESH, REPLY, SEND};
 use crate::edges::places::{place_name, places, COPIED, STORED, WHOLE};
-use crate::edges::walls::{self, AGES, COUNTS, DIRT, FLAGGED, KINDS, LASTS, NEAR, ORDERS};
+use crate::edges::sends::{ASKED, SUMS, SUM_WAYS};
+use crate::edges::walls::{self, AGES, COUNTS, DIRT, FLAGGED, HELD, KINDS, LASTS, NEAR, REPLY_NS};
 use crate::functions::SLICES;
 use crate::guc::constants::*;
+use std::fmt::Display;
 
 #[derive(Clone, Copy, Debug, PartialEq, Eq)]
 pub enum Set {
@@ -55,7 +58,20 @@ pub enum Set {
     TableTwice,
     TableNear,
     FenceBit,
-    Orders,
+    FreshOrders,
+    SendOrders,
+    ReplyOrders,
+    ReplyN,
+    AskedRoom,
+    Sum,
+    SumWay,
+    RequestKind,
+    RequestBit,
+    WallStatusBit,
+    WallSendLength,
+    WallSendPlace,
+    WallSendLeft,
+    WallSendAround,
     Skipped,
     LastFence,
     FreePlace,
@@ -64,6 +80,7 @@ pub enum Set {
     ReplyOrigin,
     ReplyPlace,
     ReplyCount,
+    ReplyHeld,
     NoReply,
     ListReply,
     Age,
@@ -87,6 +104,9 @@ const SIDES: [&str; 4] =
 /// Calls of a wall that judge the whole table.
 const JUDGED: [&str; 2] = ["opening", "reply"];
 
+/// Calls of a wall.
+const CALLS: [&str; 3] = ["fresh", "opening", "reply"];
+
 /// Origins of a reply.
 const ORIGINS: [&str; 2] = ["host", "GuC"];
 
@@ -101,6 +121,11 @@ pub const TYPES: [(u32, &str); 7] = [
     (GUC_TYPE_SUCCESS, "success"),
 ];
 
+/// A member of a set that has these words or numbers for each of others.
+fn each_of<T: Display>(each: &[&str], words: &[T], index: usize) -> String {
+    format!("{}: {}", each[index / words.len()], words[index % words.len()])
+}
+
 impl Set {
     /// Whether its members are `TYPES`.
     pub fn of_types(self) -> bool {
@@ -109,27 +134,30 @@ impl Set {
 
     /// A member by name.
     fn member(self, index: usize) -> String {
-        let of = |each: &[&str], words: &[&str]| {
-            format!("{}: {}", each[index / words.len()], words[index % words.len()])
-        };
         match self {
-            Set::Once => of(&SOUGHT, &ONCE),
-            Set::Twice => of(&SOUGHT, &TWICE),
-            Set::TableTwice => of(&JUDGED, &walls::TWICE),
-            Set::TableNear => of(&JUDGED, &NEAR),
-            Set::Orders => ORDERS[index].to_string(),
+            Set::Once => each_of(&SOUGHT, &ONCE, index),
+            Set::Twice => each_of(&SOUGHT, &TWICE, index),
+            Set::TableTwice => each_of(&JUDGED, &walls::TWICE, index),
+            Set::TableNear => each_of(&JUDGED, &NEAR, index),
+            Set::FreshOrders => pair_name(&FRESH, index),
+            Set::SendOrders => pair_name(&SEND, index),
+            Set::ReplyOrders => pair_name(&REPLY, index),
+            Set::ReplyN => each_of(&CALLS, &REPLY_NS, index),
+            Set::AskedRoom => ASKED[index].to_string(),
+            Set::Sum => format!("N {}: {}", 1024 * (1 + index / SUMS.len()), SUMS[index % 3]),
+            Set::SumWay => SUM_WAYS[index].to_string(),
+            Set::RequestKind => format!("type {}: {}", index / 2, ORIGINS[index % 2]),
             Set::LastFence => LASTS[index].to_string(),
             Set::Dirt => DIRT[index].to_string(),
             Set::FlagBit => format!("{}: bit {}", FLAGGED[index / 16], index % 16),
-            Set::ReplyOrigin => of(&KINDS, &ORIGINS),
+            Set::ReplyOrigin => each_of(&KINDS, &ORIGINS, index),
             Set::ReplyPlace => format!("{}: {}", KINDS[index / 256], index % 256),
-            Set::ReplyCount => {
-                format!("{}: {}", KINDS[index / COUNTS.len()], COUNTS[index % COUNTS.len()])
-            }
-            Set::NoReply => of(&["request", "event", "fast request"], &ORIGINS),
+            Set::ReplyCount => each_of(&KINDS, &COUNTS, index),
+            Set::ReplyHeld => each_of(&KINDS, &HELD, index),
+            Set::NoReply => each_of(&["request", "event", "fast request"], &ORIGINS, index),
             Set::ListReply => KINDS[index].to_string(),
             Set::Age => AGES[index].to_string(),
-            Set::SendPlace | Set::ReceivePlace => place_name(&WHOLE, index),
+            Set::SendPlace | Set::ReceivePlace | Set::WallSendPlace => place_name(&WHOLE, index),
             Set::WholeSendPlace | Set::WholeReceivePlace => place_name(&WHOLE, index),
             Set::StorePlace => place_name(&STORED, index),
             Set::CopyPlace => place_name(&COPIED, index),
@@ -143,7 +171,7 @@ impl Set {
 }
 
 /// Each with its name and how many members it has, in the order of `Set`.
-pub const SETS: [(Set, &str, usize); 62] = [
+pub const SETS: [(Set, &str, usize); 76] = [
     (Set::HeaderLength, "header length H, 0 to 255", 256),
     (Set::NameBit, "bit of an entry's name that alone is not the name sought", 96),
     (Set::ManifestBit, "bit of an entry's name that alone is not HUCP.man", 96),
@@ -184,7 +212,20 @@ pub const SETS: [(Set, &str, usize); 62] = [
     (Set::TableTwice, "ways in which a fence is open twice", 2 * walls::TWICE.len()),
     (Set::TableNear, "what is no fence open twice", 2 * NEAR.len()),
     (Set::FenceBit, "bit in which alone two open fences differ", 2 * 16),
-    (Set::Orders, "numbers of a wall that apply together", ORDERS.len()),
+    (Set::FreshOrders, "numbers of guc_wall_fresh that apply together", pairs(&FRESH)),
+    (Set::SendOrders, "numbers of guc_wall_send that apply together", pairs(&SEND)),
+    (Set::ReplyOrders, "numbers of guc_wall_reply that apply together", pairs(&REPLY)),
+    (Set::ReplyN, "N of the reply buffer, for each call of a wall", 3 * REPLY_NS.len()),
+    (Set::AskedRoom, "reply dwords asked for", ASKED.len()),
+    (Set::Sum, "reply dwords set aside in all, for each N", 16 * SUMS.len()),
+    (Set::SumWay, "how reply dwords come to be too many, or do not", SUM_WAYS.len()),
+    (Set::RequestKind, "types lent to guc_wall_send, by origin", 8 * ORIGINS.len()),
+    (Set::RequestBit, "bit of format and reserved of a request that alone is set", 8),
+    (Set::WallStatusBit, "bit of STATUS that alone is set at guc_wall_send", 32),
+    (Set::WallSendLength, "L of guc_wall_send that is all that is free (less 2)", 255),
+    (Set::WallSendPlace, "L of guc_wall_send, and where the buffer's end falls", places(&WHOLE)),
+    (Set::WallSendLeft, "places to the end, guc_wall_send of 256, 1 to 256 or more (less 1)", 257),
+    (Set::WallSendAround, "L of guc_wall_send around the end (less 2)", 255),
     (Set::Skipped, "open fences skipped, 0 to 255: before 65,535, around it", 2 * 256),
     (Set::LastFence, "last fences at an opening", LASTS.len()),
     (Set::FreePlace, "place of the lowest free record", 256),
@@ -193,6 +234,7 @@ pub const SETS: [(Set, &str, usize); 62] = [
     (Set::ReplyOrigin, "kinds of replies, by origin", KINDS.len() * ORIGINS.len()),
     (Set::ReplyPlace, "place of the record replied to, by kind", KINDS.len() * 256),
     (Set::ReplyCount, "counts before a reply, by kind", KINDS.len() * COUNTS.len()),
+    (Set::ReplyHeld, "reply dwords before a reply, by kind", KINDS.len() * HELD.len()),
     (Set::NoReply, "types that are no reply, with an open fence, by origin", 3 * ORIGINS.len()),
     (Set::ListReply, "kinds of replies in lists of a wall", KINDS.len()),
     (Set::Age, "ages of fences", AGES.len()),

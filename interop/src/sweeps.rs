@@ -31,7 +31,7 @@ const CALLS: [Sweep<Case>; 10] = [
 ];
 
 /// Calls of a wall.
-const WALLS: [Sweep<WallCase>; 11] = [
+const WALLS: [Sweep<WallCase>; 18] = [
     generate::every_record_count,
     generate::every_skip,
     generate::every_last,
@@ -43,6 +43,13 @@ const WALLS: [Sweep<WallCase>; 11] = [
     generate::every_fence_twice,
     generate::every_fence_bit,
     generate::every_order,
+    generate::every_sum,
+    generate::every_wrapped_sum,
+    generate::every_asked_room,
+    generate::every_reply_n,
+    generate::every_request,
+    generate::every_ring,
+    generate::every_trouble,
 ];
 
 /// CSS images.
@@ -68,7 +75,7 @@ const DIRECTORIES: [Sweep<CpdCase>; 12] = [
 /// All sweeps of the channel and of messages, and the interface's version.
 pub fn check_channel(rng: &mut Rng, tally: &mut Tally) -> Outcome {
     same("version of the interface", guc::interface(), GUC_INTERFACE)?;
-    tally.mark("guc_interface_2 answered 2", 1);
+    tally.mark("guc_interface_3 answered 3", 1);
     for sweep in CALLS {
         for case in sweep(rng) {
             check_case(rng, tally, case)?;

@@ -9,8 +9,8 @@ use crate::sets::{Members, Set, TYPES};
 use std::collections::BTreeMap;
 
 /// Things that must come up beside the numbers.
-pub const MARKS: [&str; 38] = [
-    "guc_interface_2 answered 2",
+pub const MARKS: [&str; 42] = [
+    "guc_interface_3 answered 3",
     "output longer than 256: rest unchanged",
     "message across the ring's end",
     "ring full after an operation",
@@ -29,6 +29,10 @@ pub const MARKS: [&str; 38] = [
     "calls in lists of a wall",
     "written by hand between calls of a wall",
     "table full after a call of a list",
+    "ring full after a call of a list of a wall",
+    "received by the other side in lists of a wall",
+    "opening while a send was under way",
+    "sums set aside told by the history",
     "fences given all around",
     "calls on tables of any records",
     "ages asked",

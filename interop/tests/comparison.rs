@@ -32,10 +32,11 @@ const WITH_LAYS: [(Fun, Set); 6] = [
     (Fun::ReceiveCopyAll, Set::CopyLeft),
 ];
 
-/// The calls of a wall, with sets of the records that they take or find: on tables of
-/// any records, and in lists.
-const WITH_RECORDS: [(&str, Fun, Set); 3] = [
-    ("tables", Fun::WallOpen, Set::FreePlace),
+/// The calls of a wall, with sets of the records that they take or find, or of where
+/// a message lies: on tables of any records, and in lists.
+const WITH_RECORDS: [(&str, Fun, Set); 4] = [
+    ("tables", Fun::WallSend, Set::FreePlace),
+    ("tables", Fun::WallSend, Set::WallSendPlace),
     ("tables", Fun::WallReply, Set::ReplyPlace),
     ("walls", Fun::WallReply, Set::ListReply),
 ];
@@ -54,7 +55,8 @@ fn every_group_for_a_moment() {
         }
         for (of, fun, set) in WITH_RECORDS.into_iter().filter(|row| row.0 == group.name) {
             let found: u64 = tally.members.counts(set).iter().sum();
-            assert!(found > 50 && found == tally.count(fun, 0), "{of}: {set:?}, each accepted");
+            let accepted = tally.count(fun, 0);
+            assert!(found > 30 && found == accepted, "{of}: {set:?}, {found} of {accepted}");
         }
         let of_calls = ["calls", "channels"].contains(&group.name);
         for (fun, set) in WITH_LAYS.into_iter().filter(|_| of_calls) {
@@ -111,12 +113,15 @@ fn both_kinds_of_places() {
 #[test]
 fn numbers_have_places() {
     let codes: Vec<u32> = (0..NUMBERS).map(number).collect();
-    assert_eq!(codes[21..], [21, 22, 26, 27, 35, 100, 101]);
+    assert_eq!(codes[21..], [21, 22, 26, 27, 28, 35, 100, 101]);
     assert!(codes.iter().enumerate().all(|(at, code)| place(*code) == Some(at)));
-    let none = (23..26).chain(28..35).chain(36..100).chain([102, u32::MAX]);
+    let none = (23..26).chain(29..35).chain(36..100).chain([102, u32::MAX]);
     none.for_each(|code| assert_eq!(place(code), None));
     let empty = Tally::default().missing();
     assert!(empty.iter().any(|line| line == "guc_receive never answered 9"));
     let twice = empty.iter().filter(|line| line.ends_with(" never answered 22"));
     assert_eq!(twice.count(), 7, "each function that seeks a name, and no other");
+    assert!(empty.iter().any(|line| line == "guc_wall_send never answered 28"));
+    let room = empty.iter().filter(|line| line.ends_with(" never answered 28"));
+    assert_eq!(room.count(), 1, "an opening, and no other");
 }

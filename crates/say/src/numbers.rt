@@ -4,7 +4,7 @@ use crate::print::one;
 use crate::print::piece;
 use crate::print::text;
 
-// The sentence for a number, 1 to 22, 26, 27 and 35; nothing for another.
+// The sentence for a number, 1 to 22, 26 to 28 and 35; nothing for another.
 pub fn sentence(code: u32) {
     line(
         b"\n\
@@ -21,7 +21,7 @@ pub fn sentence(code: u32) {
           nothing pending\n\
           publish before the last dword moved, or a move after it\n\
           the message is whole but malformed\n\
-          a field too wide, NUM_DWORDS 0, or a name not 1 to 12 bytes without a zero\n\
+          a field too wide, NUM_DWORDS 0, room above 256, or a name not 1 to 12 bytes without a zero\n\
           too short for its header\n\
           the sizes in its header disagree\n\
           a part of the image lies beyond its end\n\
@@ -32,8 +32,9 @@ pub fn sentence(code: u32) {
           more than one entry has that name\n\
           \n\n\n\
           every record of the table is open\n\
-          no open request has that fence, or the message is no reply\n\
-          \n\n\n\n\n\n\n\
+          the message is no request to send, or no reply to an open one\n\
+          the reply buffer would have too little room for the answer\n\
+          \n\n\n\n\n\n\
           a table has 1 to 256 records, no two open with one fence\n",
         code as usize,
     );

@@ -35,22 +35,70 @@ static uint32_t judge(const struct guc_record *table, size_t records)
 	return GUC_OK;
 }
 
-struct guc_wall_answer guc_wall_open(struct guc_wall *wall, struct guc_record *table,
-				     size_t records, uint16_t action)
+static int allowed(const struct guc_wall *wall)
 {
-	struct guc_wall_answer a = { judge(table, records), 0, 0, 0, 0 };
-	struct guc_record r = { 1, (uint16_t)(wall->last + 1), action, 0 };
+	return get(&wall->n) % 1024 == 0 && get(&wall->n) >= 1024 && get(&wall->n) <= 16384;
+}
+
+/* What is set aside by the records that are open, each looked at once more. */
+static uint32_t set_aside(const struct guc_record *table, size_t records)
+{
+	uint32_t sum = 0;
 	size_t k;
 
+	for (k = 0; k < records; k++)
+		if (get(&table[k].open))
+			sum += get(&table[k].room);
+	return sum;
+}
+
+static uint32_t judge_opening(const struct guc_wall *wall, const struct guc_record *table, size_t records,
+			      const uint32_t *msg, size_t len, uint32_t room)
+{
+	uint32_t code = judge(table, records);
+	size_t k;
+
+	if (code)
+		return code;
+	if (!allowed(wall))
+		return GUC_BAD_BUFFER;
+	if (room > GUC_REPLY_DWORDS_MAX)
+		return GUC_BAD_FIELD;
+	if (!well_formed(dword(msg), dword(msg + 1)) || 1 + (dword(msg) & 0xFF) != len ||
+	    (dword(msg + 1) >> 28 & 7) != GUC_TYPE_REQUEST)
+		return GUC_NO_REQUEST;
 	for (k = 0; k < records && get(&table[k].open); k++)
 		;
-	if (a.code == GUC_OK && k == records)
-		a.code = GUC_TABLE_FULL;
+	if (k == records)
+		return GUC_TABLE_FULL;
+	return set_aside(table, records) + room > get(&wall->n) - 1u ? GUC_NO_REPLY_ROOM : GUC_OK;
+}
+
+/* The message is read again when it is sent, and once more for its action. */
+struct guc_wall_answer guc_wall_send(struct guc_wall *wall, struct guc_record *table, size_t records,
+				     struct guc_sender *s, struct guc_descriptor *desc, uint32_t *ring,
+				     size_t n, const uint32_t *msg, size_t len, uint32_t room)
+{
+	struct guc_wall_answer a = { judge_opening(wall, table, records, msg, len, room), 0, 0, 0, 0 };
+	struct guc_record r = { 1, 0, 0, 0, (uint16_t)room };
+	uint32_t sent[GUC_MESSAGE_DWORDS];
+	size_t k;
+
 	if (a.code)
 		return a;
-	while (find(table, 0, records, r.fence) < records)
+	for (r.fence = (uint16_t)(get(&wall->last) + 1); find(table, 0, records, r.fence) < records;)
 		r.fence++;
-	table[k] = r;
+	for (k = 0; k < len; k++)
+		sent[k] = dword(msg + k);
+	sent[0] = (sent[0] & 0xFFFF) | (uint32_t)r.fence << 16;
+	a.code = guc_send(s, desc, ring, n, sent, len);
+	if (a.code)
+		return a;
+	for (k = 0; k < records && get(&table[k].open); k++)
+		;
+	r.action = (uint16_t)dword(msg + 1);
+	if (k < records)
+		table[k] = r;
 	a.fence = wall->last = r.fence;
 	return a;
 }
@@ -63,14 +111,15 @@ static uint32_t judge_message(const uint32_t *msg, size_t len)
 }
 
 /* The count is looked at, and then added to. */
-struct guc_wall_answer guc_wall_reply(struct guc_wall *wall, struct guc_record *table,
+struct guc_wall_answer guc_wall_reply(const struct guc_wall *wall, struct guc_record *table,
 				      size_t records, const uint32_t *msg, size_t len)
 {
 	struct guc_wall_answer a = { judge(table, records), 0, 0, 0, 0 };
-	struct guc_record none = { 0, 0, 0, 0 };
+	struct guc_record none = { 0, 0, 0, 0, 0 };
 	size_t k;
 
-	(void)wall;
+	if (a.code == GUC_OK && !allowed(wall))
+		a.code = GUC_BAD_BUFFER;
 	if (a.code == GUC_OK)
 		a.code = judge_message(msg, len);
 	if (a.code)

@@ -41,6 +41,8 @@ EDITS = [
     ("three_words_back", FENCE_TAIL, FENCE_TAIL + "	GUC_STORE_WORD(&live->head, own->head);\n	GUC_STORE_WORD(&live->status, own->status);\n"),
     ("head_for_tail", FENCE_TAIL, FENCE_TAIL.replace("own->tail", "own->head")),
     ("live_descriptor_lent", "guc_whole_send(s, &own, ring,", "guc_whole_send(s, desc, ring,"),
+    ("wall_send_not_published", "	guc_live_sent(desc, &own, answer.code);\n", ""),
+    ("wall_send_on_the_live_descriptor", "guc_wall_send(wall, table, records, s, &own, ring,", "guc_wall_send(wall, table, records, s, desc, ring,"),
     ("look_publishes", "guc_send_look(s, &own, ring, n, msg, msg_len);\n" + LOOKED,
      "guc_send_look(s, &own, ring, n, msg, msg_len);\n	guc_live_sent(desc, &own, code);\n"),
     ("receive_look_keeps_status", "guc_receive_look(r, &own, ring, n);\n" + LOOKED, "guc_receive_look(r, &own, ring, n);\n"),

@@ -14,7 +14,10 @@ mod odd;
 mod places;
 mod records;
 mod repeats;
+mod requests;
+mod rooms;
 mod state;
+mod troubles;
 mod twos;
 mod walls;
 mod wraps;
@@ -43,9 +46,15 @@ pub use repeats::{
     every_misplaced_name, every_near_name, every_repeat, every_repeat_cut, every_repeated_length,
     every_uncounted_name,
 };
+pub use requests::{
+    every_asked_room, every_reply_n, every_request, every_ring, every_sum, every_wrapped_sum,
+    no_channel, request, request_of,
+};
+pub use rooms::{asked_room, fresh_n, reply_n};
 pub use state::{break_state, random_state, receiving, sending};
+pub use troubles::every_trouble;
 pub use twos::every_two;
-pub use walls::{any_table, half, sound_table, wall_call, wall_reply, WallCase};
+pub use walls::{any_table, half, sound_table, wall_call, wall_case, wall_reply, WallCase};
 
 /// The splitmix64 generator.
 #[derive(Clone, Debug)]

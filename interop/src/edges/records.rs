@@ -2,9 +2,10 @@
 //! which record a reply finds, and what only looks like a fence open twice.
 
 use super::messages::of_message;
-use super::walls::{Seen, COUNTS, KIND_TYPES, LASTS, NEAR};
+use super::walls::{Seen, COUNTS, HELD, KIND_TYPES, LASTS, NEAR};
 use super::{Edge, Stands};
 use crate::sets::Set;
+use model::wall::table::Record;
 
 /// Notes a number that has one bit, for a place of `FLAGGED`.
 fn of_flag(stands: &mut Stands, place: usize, open: u16) {
@@ -32,7 +33,8 @@ pub(super) fn of_near(stands: &mut Stands, seen: &Seen, which: usize) {
         let differs = one.fence ^ other.fence;
         near[3] = differs & 0x00FF == 0;
         near[4] = differs & 0xFF00 == 0;
-        near[5] = [one.open, one.action, one.count] == [other.open, other.action, other.count];
+        let rest = |r: &Record| [r.open, r.action, r.count, r.room];
+        near[5] = rest(&one) == rest(&other);
         if near[5] && differs.count_ones() == 1 {
             stands.member(Set::FenceBit, 16 * which + differs.trailing_zeros() as usize);
         }
@@ -42,15 +44,14 @@ pub(super) fn of_near(stands: &mut Stands, seen: &Seen, which: usize) {
     }
 }
 
-/// Number 26, then what is taken and skipped.
-pub(super) fn of_opening(stands: &mut Stands, seen: &Seen) {
-    stands.at(Edge::FreeRecords, seen.free.len() as u64, [0, 1]);
+/// What a full table holds, and what an opening that is accepted takes and skips.
+pub(super) fn of_opening(stands: &mut Stands, seen: &Seen, expected: u32, accepted: bool) {
+    if expected == 26 {
+        seen.records.iter().for_each(|record| of_flag(stands, 1, record.open));
+    }
     let place = match seen.free.first() {
-        Some(place) => *place,
-        None => {
-            seen.records.iter().for_each(|record| of_flag(stands, 1, record.open));
-            return;
-        }
+        Some(place) if accepted => *place,
+        _ => return,
     };
     stands.member(Set::FreePlace, place);
     seen.records[..place].iter().for_each(|record| of_flag(stands, 0, record.open));
@@ -72,6 +73,9 @@ pub(super) fn of_opening(stands: &mut Stands, seen: &Seen) {
     ];
     for held in (0..dirt.len()).filter(|held| dirt[*held]) {
         stands.member(Set::Dirt, held);
+    }
+    if taken.room != 0 {
+        stands.member(Set::Dirt, 8);
     }
 }
 
@@ -101,6 +105,9 @@ pub(super) fn of_reply(stands: &mut Stands, seen: &Seen, message: &[u32]) {
             let record = &seen.records[place];
             if let Some(count) = COUNTS.iter().position(|count| *count == record.count) {
                 stands.member(Set::ReplyCount, COUNTS.len() * reply + count);
+            }
+            if let Some(held) = HELD.iter().position(|held| *held == record.room) {
+                stands.member(Set::ReplyHeld, HELD.len() * reply + held);
             }
             of_flag(stands, if reply == 0 { 3 } else { 4 }, record.open);
         }

@@ -1,11 +1,13 @@
 //! At which boundaries a call of a wall stands, worked out from the table, the last
-//! fence and the message it is lent; one counts only where no number that is tested
-//! before applies (35, then 26; 35, 4, then 27).
+//! fence, the reply buffer's N, the channel and the message it is lent; one counts
+//! only where no number that is tested before applies (`orders.rs`).
 
-use super::messages::of_message;
+use super::orders::of_order;
 use super::records::{of_near, of_opening, of_reply};
+use super::sends::of_send;
 use super::{Edge, Stands};
 use crate::sets::Set;
+use model::run::Channel;
 use model::wall::table::{Record, Table};
 use model::wall::Call;
 use std::collections::HashMap;
@@ -37,22 +39,8 @@ pub const NEAR: [&str; 6] = [
     "open records alike in all but the fence",
 ];
 
-/// Numbers that apply together; the first is answered.
-pub const ORDERS: [&str; 10] = [
-    "35 by length and 26",
-    "35 by a fence and 26",
-    "35 by length and 4",
-    "35 by length and 27 by fence",
-    "35 by length and 27 by type",
-    "35 by a fence and 4",
-    "35 by a fence and 27 by fence",
-    "35 by a fence and 27 by type",
-    "4 and 27 by fence",
-    "4 and 27 by type",
-];
-
 /// What free records hold: the one that an opening takes, or any.
-pub const DIRT: [&str; 8] = [
+pub const DIRT: [&str; 9] = [
     "taken: a fence",
     "taken: an action",
     "taken: a count",
@@ -61,6 +49,7 @@ pub const DIRT: [&str; 8] = [
     "any: the fence of a reply that no open one has",
     "before the record replied to: its fence",
     "behind the record replied to: its fence",
+    "taken: reply dwords",
 ];
 
 /// Where a number with one bit stands in `open`.
@@ -75,6 +64,12 @@ pub const FLAGGED: [&str; 5] = [
 /// Last fences, and counts before a reply.
 pub const LASTS: [u16; 10] = [0, 1, 254, 255, 256, 32_767, 32_768, 65_533, 65_534, 65_535];
 pub const COUNTS: [u16; 9] = [0, 1, 254, 255, 256, 32_767, 65_533, 65_534, 65_535];
+
+/// Reply dwords of a record that is replied to.
+pub const HELD: [u16; 6] = [0, 1, 255, 256, 257, 65_535];
+
+/// N of the reply buffer.
+pub const REPLY_NS: [u16; 8] = [0, 1, 1023, 1024, 1025, 16_384, 17_408, 65_535];
 
 /// Ages that both a fence above the newest and one below it have; 0 is alone.
 pub const AGES: [&str; 13] = [
@@ -108,6 +103,7 @@ pub fn age_member(fence: u16, newest: u16, age: i32) -> Option<usize> {
 pub(super) struct Seen<'a> {
     pub records: &'a [Record],
     pub last: u16,
+    pub n: u16,
     pub open: HashMap<u16, usize>,
     pub free: Vec<usize>,
     shared: HashMap<u16, Vec<usize>>,
@@ -115,7 +111,7 @@ pub(super) struct Seen<'a> {
 
 impl<'a> Seen<'a> {
     fn of(table: &'a Table) -> Seen<'a> {
-        let Table { records, last } = table;
+        let Table { records, last, n } = table;
         let (mut open, mut shared) = (HashMap::new(), HashMap::new());
         for (place, record) in records.iter().enumerate().filter(|(_, record)| record.open != 0) {
             let first = *open.entry(record.fence).or_insert(place);
@@ -124,85 +120,69 @@ impl<'a> Seen<'a> {
             }
         }
         let free = (0..records.len()).filter(|place| records[*place].open == 0).collect();
-        Seen { records, last: *last, open, free, shared }
+        Seen { records, last: *last, n: *n, open, free, shared }
     }
 
-    fn length_fits(&self) -> bool {
+    pub fn length_fits(&self) -> bool {
         self.records.len() == 256 || matches!(self.records.len(), 1..=255)
+    }
+
+    /// Whether a fence is open twice.
+    pub fn twice(&self) -> bool {
+        !self.shared.is_empty()
+    }
+
+    /// The reply dwords of all open records.
+    pub fn set_aside(&self) -> u64 {
+        let rooms = self.records.iter().filter(|record| record.open != 0);
+        rooms.map(|record| u64::from(record.room)).sum()
     }
 }
 
-/// Where a call stands.
-pub fn of_wall(table: &Table, call: &Call) -> Stands {
+/// Where a call stands, and the number that it must answer.
+pub fn of_wall(table: &Table, channel: &Channel, call: &Call) -> (Stands, u32) {
     let (mut stands, seen) = (Stands::default(), Seen::of(table));
     let (count, alone) = (seen.records.len(), seen.shared.is_empty());
-    let which = match call {
-        Call::Fresh => 0,
-        Call::Open(_) => 1,
-        Call::Reply(_) => 2,
+    let (which, n) = match call {
+        Call::Fresh(n) => (0, *n as u64),
+        Call::Send(..) => (1, u64::from(seen.n)),
+        Call::Reply(_) => (2, u64::from(seen.n)),
     };
     if which == 0 || alone {
         stands.at(Edge::RecordsNone, count as u64, [0, 1]);
         stands.at(Edge::RecordsMost, count as u64, [256, 257]);
     }
-    if which > 0 {
-        of_order(&mut stands, &seen, call);
-    }
+    let expected = of_order(&mut stands, &seen, channel, call);
     if which > 0 && seen.length_fits() {
         of_fences(&mut stands, &seen, which - 1);
     }
     if !seen.length_fits() || (which > 0 && !alone) {
-        return stands;
+        return (stands, expected);
     }
     stands.member(Set::Records, 256 * which + count - 1);
+    if let Some(place) = REPLY_NS.iter().position(|one| u64::from(*one) == n) {
+        stands.member(Set::ReplyN, REPLY_NS.len() * which + place);
+    }
+    of_reply_n(&mut stands, n, (which == 1).then(|| channel.buf.len()));
     match call {
-        Call::Fresh => {}
-        Call::Open(_) => of_opening(&mut stands, &seen),
-        Call::Reply(message) => of_reply(&mut stands, &seen, message),
+        Call::Fresh(_) => {}
+        Call::Send(message, room) => {
+            let accepted = of_send(&mut stands, &seen, (channel, message, *room));
+            of_opening(&mut stands, &seen, expected, accepted);
+        }
+        Call::Reply(message) if expected != 2 => of_reply(&mut stands, &seen, message),
+        Call::Reply(_) => {}
     }
-    stands
+    (stands, expected)
 }
 
-/// What is wrong with a reply beside the table: malformed, no open fence, another
-/// type. Of a message without a second dword only the first is asked.
-fn wrong(seen: &Seen, message: &[u32]) -> [bool; 3] {
-    let (_, well_formed) = of_message(message);
-    match message {
-        [header, word, ..] => {
-            let another = [0, 1, 2].contains(&((word >> 28) % 8));
-            [!well_formed, !seen.open.contains_key(&((header >> 16) as u16)), another]
-        }
-        _ => [!well_formed, false, false],
-    }
-}
-
-/// Numbers that apply together.
-fn of_order(stands: &mut Stands, seen: &Seen, call: &Call) {
-    let (length, fence) = (!seen.length_fits(), !seen.shared.is_empty());
-    let full = seen.free.is_empty() && !seen.records.is_empty();
-    let together = match call {
-        Call::Reply(message) => {
-            let [malformed, no_fence, another] = wrong(seen, message);
-            let both = malformed && !length && !fence;
-            let (by_length, by_fence) = (length && !fence, fence && !length);
-            let (fits, asked) = (!malformed && !another, !malformed && !no_fence);
-            vec![
-                false,
-                false,
-                by_length && malformed,
-                by_length && fits && no_fence,
-                by_length && asked && another,
-                by_fence && malformed,
-                by_fence && fits && no_fence,
-                by_fence && asked && another,
-                both && no_fence && !another,
-                both && another && !no_fence,
-            ]
-        }
-        _ => vec![length && !fence && full, fence && !length && full],
-    };
-    for order in (0..together.len()).filter(|order| together[*order]) {
-        stands.member(Set::Orders, order);
+/// Number 2, by the reply buffer. Where a ring's N is not allowed either, 2 says
+/// nothing of this one.
+fn of_reply_n(stands: &mut Stands, n: u64, ring: Option<usize>) {
+    if ring.map_or(true, |ring| ring % 1024 == 0 && (1..=16).contains(&(ring / 1024))) {
+        stands.at(Edge::LeastReplyN, n, [1023, 1024]);
+        stands.at(Edge::MostReplyN, n, [16_384, 16_385]);
+        stands.at(Edge::NextReplyN, n, [16_384, 17_408]);
     }
 }
 

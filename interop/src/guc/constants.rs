@@ -10,7 +10,7 @@ macro_rules! constants {
 }
 
 constants! {
-    GUC_INTERFACE = 2,
+    GUC_INTERFACE = 3,
     GUC_OK = 0,
     GUC_BAD_DESCRIPTOR = 1,
     GUC_BAD_BUFFER = 2,
@@ -36,6 +36,7 @@ constants! {
     GUC_DUPLICATE_ENTRY = 22,
     GUC_TABLE_FULL = 26,
     GUC_NO_REQUEST = 27,
+    GUC_NO_REPLY_ROOM = 28,
     GUC_BAD_TABLE = 35,
     GUC_NO_ROOM = 100,
     GUC_NO_SUCH = 101,
@@ -47,6 +48,7 @@ constants! {
     GUC_RING_MAX = 16384,
     GUC_NAME_BYTES = 12,
     GUC_RECORDS_MAX = 256,
+    GUC_REPLY_DWORDS_MAX = 256,
     GUC_FIRST_LAST = 65535,
     GUC_STATUS_GOOD = 0,
     GUC_STATUS_OVERFLOW = 1,

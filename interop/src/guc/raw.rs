@@ -92,7 +92,7 @@ type Bytes = *const u8;
 type Desc = *mut Descriptor;
 
 extern "C" {
-    pub fn guc_interface_2() -> u32;
+    pub fn guc_interface_3() -> u32;
     pub fn guc_open(s: *mut Sender, r: *mut Receiver, d: Desc, b: In, n: usize) -> u32;
     pub fn guc_send_look(s: *mut Sender, d: Desc, b: In, n: usize, m: In, ml: usize) -> u32;
     pub fn guc_send_store(s: *mut Sender, d: *const Descriptor, b: *mut u32, n: usize) -> u32;
@@ -152,9 +152,26 @@ extern "C" {
     ) -> Packed;
     pub fn guc_unpack(m: In, ml: usize) -> Unpacked;
 
-    pub fn guc_wall_fresh(w: *mut Wall, t: *mut Record, n: usize) -> u32;
-    pub fn guc_wall_open(w: *mut Wall, t: *mut Record, n: usize, action: u16) -> WallAnswer;
-    pub fn guc_wall_reply(w: *mut Wall, t: *mut Record, n: usize, m: In, ml: usize) -> WallAnswer;
+    pub fn guc_wall_fresh(w: *mut Wall, t: *mut Record, records: usize, reply_n: usize) -> u32;
+    pub fn guc_wall_send(
+        w: *mut Wall,
+        t: *mut Record,
+        records: usize,
+        s: *mut Sender,
+        d: Desc,
+        b: *mut u32,
+        n: usize,
+        m: In,
+        ml: usize,
+        room: u32,
+    ) -> WallAnswer;
+    pub fn guc_wall_reply(
+        w: *const Wall,
+        t: *mut Record,
+        records: usize,
+        m: In,
+        ml: usize,
+    ) -> WallAnswer;
     pub fn guc_wall_age(fence: u16, newest: u16) -> i32;
 
     pub fn guc_css_answer(b: Bytes, bl: usize) -> Css;

@@ -19,7 +19,7 @@ fn look(rng: &mut Rng, op: Op) -> Case {
 }
 
 /// A call with a message of this length and so much used.
-fn with_used(rng: &mut Rng, op: Op, length: usize, used: usize) -> Case {
+pub(super) fn with_used(rng: &mut Rng, op: Op, length: usize, used: usize) -> Case {
     let mut case = look(rng, op);
     let n = case.buf.len() as u32;
     if op.sends() {

@@ -3,6 +3,7 @@
 //! looks so, every type, and numbers that apply together.
 
 use super::fields::every_message;
+use super::requests::{good_channel, no_channel};
 use super::walls::{dirty_record, half, open_record, set_fence, shuffle, wall_reply, WallCase};
 use super::Rng;
 use crate::wall::table::{Record, Table};
@@ -11,9 +12,24 @@ use crate::wall::Call;
 /// Types that are replies.
 const REPLIES: [u32; 4] = [3, 5, 6, 7];
 
+/// The largest reply buffer: 255 records of `open_record` leave room for one more.
+const N: u16 = 16_384;
+
 /// These records, with any last fence.
 fn table(rng: &mut Rng, records: Vec<Record>) -> Table {
-    Table { records, last: half(rng) }
+    Table { records, last: half(rng), n: N }
+}
+
+/// A send on this table that nothing else is wrong with.
+fn sent(rng: &mut Rng, table: Table) -> WallCase {
+    let (channel, message) = good_channel(rng);
+    let room = rng.pick(&[0, 1, 255, 256]);
+    WallCase { table, channel, call: Call::Send(message, room) }
+}
+
+/// A call that is lent no channel.
+fn alone(table: Table, call: Call) -> WallCase {
+    WallCase { table, channel: no_channel(), call }
 }
 
 /// So many open records, their fences a run from this one on.
@@ -21,17 +37,11 @@ fn run(rng: &mut Rng, from: u16, count: usize) -> Vec<Record> {
     (0..count).map(|k| open_record(rng, from.wrapping_add(k as u16))).collect()
 }
 
-/// An opening, and a reply of any kind to this fence.
-fn both_calls(rng: &mut Rng, fence: u16) -> [Call; 2] {
-    let kind = rng.pick(&REPLIES);
-    [Call::Open(half(rng)), Call::Reply(wall_reply(rng, fence, kind))]
-}
-
-/// The table with each of both calls.
+/// The table with an opening, and with a reply of any kind to this fence.
 fn push_both(rng: &mut Rng, cases: &mut Vec<WallCase>, table: &Table, fence: u16) {
-    for call in both_calls(rng, fence) {
-        cases.push(WallCase { table: table.clone(), call });
-    }
+    cases.push(sent(rng, table.clone()));
+    let kind = rng.pick(&REPLIES);
+    cases.push(alone(table.clone(), Call::Reply(wall_reply(rng, fence, kind))));
 }
 
 /// Every number of records up to 260, and others whose low bits are an allowed one;
@@ -44,7 +54,7 @@ pub fn every_record_count(rng: &mut Rng) -> Vec<WallCase> {
         records.resize(count, Record::default());
         let table = table(rng, records);
         push_both(rng, &mut cases, &table, fence);
-        cases.push(WallCase { table, call: Call::Fresh });
+        cases.push(alone(table, Call::Fresh(N as usize)));
     }
     cases
 }
@@ -66,7 +76,7 @@ pub fn every_skip(rng: &mut Rng) -> Vec<WallCase> {
         let free = if rng.chance(1, 2) { Record::default() } else { dirty_record(rng) };
         records.push(free);
         shuffle(rng, &mut records);
-        cases.push(WallCase { table: Table { records, last }, call: Call::Open(half(rng)) });
+        cases.push(sent(rng, Table { records, last, n: N }));
     }
     cases
 }
@@ -78,7 +88,7 @@ pub fn every_last(rng: &mut Rng) -> Vec<WallCase> {
         for open in [0, 1, 2, 3, 9] {
             let mut records = run(rng, u16::wrapping_add(last, 1), open);
             records.insert(rng.below(open as u64 + 1) as usize, dirty_record(rng));
-            cases.push(WallCase { table: Table { records, last }, call: Call::Open(half(rng)) });
+            cases.push(sent(rng, Table { records, last, n: N }));
         }
     }
     cases
@@ -94,21 +104,21 @@ pub fn every_free_place(rng: &mut Rng) -> Vec<WallCase> {
         let any = dirty_record(rng);
         let theirs = from.wrapping_add(rng.below(place as u64 + 1) as u16);
         let next = from.wrapping_add(place as u16);
-        records.push(match place % 7 {
+        records.push(match place % 8 {
             0 => Record { fence: any.fence, ..Record::default() },
             1 => Record { action: any.action, ..Record::default() },
             2 => Record { count: any.count, ..Record::default() },
             3 => Record { fence: theirs, ..any },
             4 => Record { fence: next, ..any },
             5 => Record::default(),
+            6 => Record { room: 65_535, ..Record::default() },
             _ => any,
         });
         while records.len() < 256 && rng.chance(7, 8) {
             let fence = from.wrapping_add(300 + records.len() as u16);
             records.push(if rng.chance(1, 2) { open_record(rng, fence) } else { any });
         }
-        let table = Table { records, last: from.wrapping_sub(1) };
-        cases.push(WallCase { table, call: Call::Open(half(rng)) });
+        cases.push(sent(rng, Table { records, last: from.wrapping_sub(1), n: N }));
     }
     cases
 }
@@ -127,13 +137,13 @@ pub fn every_reply_place(rng: &mut Rng) -> Vec<WallCase> {
             records[free] = if free == place as usize { records[free] } else { holds };
         }
         let call = Call::Reply(wall_reply(rng, fence, kind));
-        cases.push(WallCase { table: table(rng, records), call });
+        cases.push(alone(table(rng, records), call));
     }
     cases
 }
 
 /// Every type of either origin with an open fence and with none, and each kind of
-/// reply with counts at their ends.
+/// reply with counts, and with reply dwords, at their ends.
 pub fn every_reply(rng: &mut Rng) -> Vec<WallCase> {
     let mut cases = Vec::new();
     for (kind, origin) in (0..8).flat_map(|kind| [(kind, 0), (kind, 1 << 31)]) {
@@ -141,11 +151,11 @@ pub fn every_reply(rng: &mut Rng) -> Vec<WallCase> {
             let from = half(rng);
             let mut records = run(rng, from, 3);
             records[1].count = count;
+            records[1].room = rng.pick(&[0, 1, 255, 256, 257, 65_535]);
             for fence in [from.wrapping_add(1), from.wrapping_sub(1)] {
                 let mut message = wall_reply(rng, fence, kind);
                 message[1] = message[1] << 1 >> 1 | origin;
-                let table = table(rng, records.clone());
-                cases.push(WallCase { table, call: Call::Reply(message) });
+                cases.push(alone(table(rng, records.clone()), Call::Reply(message)));
             }
         }
     }
@@ -159,7 +169,7 @@ pub fn every_reply_message(rng: &mut Rng) -> Vec<WallCase> {
         let from = half(rng);
         let records = run(rng, from, 2);
         set_fence(&mut message, from);
-        cases.push(WallCase { table: table(rng, records), call: Call::Reply(message) });
+        cases.push(alone(table(rng, records), Call::Reply(message)));
     }
     cases
 }
@@ -172,16 +182,17 @@ pub fn every_flag(rng: &mut Rng) -> Vec<WallCase> {
         let fence = half(rng);
         let mut one = Record { open, ..open_record(rng, fence) };
         let before = table(rng, vec![one, Record::default()]);
-        cases.push(WallCase { table: before, call: Call::Open(half(rng)) });
+        cases.push(sent(rng, before));
         for kind in REPLIES {
             one.count = rng.pick(&[0, 1, 65_534, 65_535]);
             let call = Call::Reply(wall_reply(rng, fence, kind));
-            cases.push(WallCase { table: table(rng, vec![one]), call });
+            cases.push(alone(table(rng, vec![one]), call));
         }
         let other = Record { open: 1, ..open_record(rng, fence) };
         let twice = table(rng, vec![Record::default(), one, other]);
         push_both(rng, &mut cases, &twice, fence);
-        cases.push(WallCase { table: table(rng, vec![one]), call: Call::Open(half(rng)) });
+        let full = table(rng, vec![one]);
+        cases.push(sent(rng, full));
     }
     cases
 }
@@ -238,8 +249,9 @@ pub fn every_fence_bit(rng: &mut Rng) -> Vec<WallCase> {
     cases
 }
 
-/// Numbers that apply together: a table of another length or with a fence open
-/// twice, every record open or not, with messages of every sort.
+/// Numbers of a reply that apply together: a table of another length or with a fence
+/// open twice, an N that is not allowed, with messages of every sort. Those of an
+/// opening are in `troubles.rs`.
 pub fn every_order(rng: &mut Rng) -> Vec<WallCase> {
     let mut cases = Vec::new();
     let fence = half(rng);
@@ -247,18 +259,20 @@ pub fn every_order(rng: &mut Rng) -> Vec<WallCase> {
     twice[3].fence = twice[1].fence;
     let mut free = twice.clone();
     free[0] = Record::default();
-    for records in [run(rng, fence, 257), run(rng, fence, 2), Vec::new(), twice, free] {
-        let table = table(rng, records);
+    let all = [run(rng, fence, 257), run(rng, fence, 2), Vec::new(), twice, free];
+    for (records, n) in all.into_iter().flat_map(|one| [(one.clone(), N), (one, 1000)]) {
+        let table = Table { n, ..table(rng, records) };
         for asked in [fence.wrapping_add(1), fence.wrapping_sub(1)] {
             push_both(rng, &mut cases, &table, asked);
             for kind in [0, 1, 2, 3, 4, 5, 6, 7] {
                 let mut message = wall_reply(rng, asked, kind);
-                cases.push(WallCase { table: table.clone(), call: Call::Reply(message.clone()) });
+                cases.push(alone(table.clone(), Call::Reply(message.clone())));
                 message.push(0);
-                cases.push(WallCase { table: table.clone(), call: Call::Reply(message) });
+                cases.push(alone(table.clone(), Call::Reply(message)));
             }
         }
-        cases.push(WallCase { table: table.clone(), call: Call::Reply(Vec::new()) });
+        cases.push(alone(table.clone(), Call::Reply(Vec::new())));
+        cases.push(alone(table, Call::Fresh(1000)));
     }
     cases
 }

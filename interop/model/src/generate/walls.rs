@@ -1,14 +1,19 @@
 //! Tables of requests, sound ones and hostile ones, and calls on them.
 
 use super::message::{malformed, well_formed_of, with_type};
+use super::requests::{request, wall_channel};
+use super::rooms::{any_rooms, asked_room, fresh_n, reply_n};
 use super::Rng;
+use crate::run::Channel;
 use crate::wall::table::{Record, Table};
 use crate::wall::Call;
 
-/// A call with the table and the last fence that it is lent.
-#[derive(Clone, Debug, PartialEq, Eq)]
+/// A call with the table, the last fence and the reply buffer's N that it is lent,
+/// and the channel, which only a send is lent.
+#[derive(Clone, Debug)]
 pub struct WallCase {
     pub table: Table,
+    pub channel: Channel,
     pub call: Call,
 }
 
@@ -30,16 +35,18 @@ fn flag(rng: &mut Rng) -> u16 {
     }
 }
 
-/// An open record with this fence.
+/// An open record with this fence. Of 255 such the reply dwords leave room for one
+/// more request in the largest reply buffer.
 pub(super) fn open_record(rng: &mut Rng, fence: u16) -> Record {
     let few = rng.below(4) as u16;
     let count = rng.pick(&[0, 0, few, 254, 255, 65_533, 65_534, 65_535]);
-    Record { open: flag(rng), fence, action: half(rng), count }
+    let room = rng.pick(&[0, 0, 1, few, 63]);
+    Record { open: flag(rng), fence, action: half(rng), count, room }
 }
 
 /// A free record that holds what a free one may: anything.
 pub(super) fn dirty_record(rng: &mut Rng) -> Record {
-    Record { open: 0, fence: half(rng), action: half(rng), count: half(rng) }
+    Record { open: 0, fence: half(rng), action: half(rng), count: half(rng), room: half(rng) }
 }
 
 /// How many records: mostly an allowed number, one of the ends or 16.
@@ -99,7 +106,8 @@ pub fn sound_table(rng: &mut Rng, count: usize) -> Table {
         let free = rng.below(count as u64) as usize;
         records[free] = if dirty { dirty_record(rng) } else { Record::default() };
     }
-    Table { records, last }
+    let n = reply_n(rng);
+    Table { records, last, n }
 }
 
 /// Any two places of a table, or two next to each other, or the ends.
@@ -175,12 +183,9 @@ fn asked_fence(rng: &mut Rng, table: &Table) -> u16 {
     }
 }
 
-/// The next call: an opening `openings` times in eight, or a reply; now and then one
-/// that is malformed, or of a type that is none.
-pub fn wall_call(rng: &mut Rng, table: &Table, openings: u64) -> Call {
-    if rng.chance(openings, 8) {
-        return Call::Open(half(rng));
-    }
+/// A reply to a fence of this table; now and then one that is malformed, or of a
+/// type that is none.
+fn any_reply(rng: &mut Rng, table: &Table) -> Call {
     let fence = asked_fence(rng, table);
     let message = match rng.below(16) {
         0 => {
@@ -198,4 +203,28 @@ pub fn wall_call(rng: &mut Rng, table: &Table, openings: u64) -> Call {
         }
     };
     Call::Reply(message)
+}
+
+/// The next call of a list: a send `openings` times in eight, or a reply.
+pub fn wall_call(rng: &mut Rng, table: &Table, openings: u64) -> Call {
+    if rng.chance(openings, 8) {
+        return Call::Send(request(rng), asked_room(rng));
+    }
+    any_reply(rng, table)
+}
+
+/// Any call on any table, with a channel that is as it should be, or is not.
+pub fn wall_case(rng: &mut Rng) -> WallCase {
+    let mut table = any_table(rng);
+    let (channel, message) = wall_channel(rng);
+    let call = match rng.below(12) {
+        0 => Call::Fresh(fresh_n(rng)),
+        1..=5 => any_reply(rng, &table),
+        _ => {
+            let room = asked_room(rng);
+            any_rooms(rng, &mut table, room);
+            Call::Send(message, room)
+        }
+    };
+    WallCase { table, channel, call }
 }

@@ -100,8 +100,7 @@ plan-open-requires c κs =
     let p = asked (c .before .before .before .before .before) in
     let q = before-n p in
     let a = start (q .before) .args in
-    let few = allowed-most (a .n) (fit q) in
-    (
+    let few = allowed-most (a .n) (fit q) in (
       q .before .fence-twice .ensures .1 (q .if2 .left),
       (
         so-many (a .n) (now (a .words)) (omega arith) ∙ sym (so-many (a .n) (now (a .rooms)) (omega arith)),

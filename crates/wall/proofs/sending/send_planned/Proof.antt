@@ -35,8 +35,7 @@ returns-2 c =
     let a = start w .args in
     let z = eq-eqb (a .p .answer .code) 0 (passed w) in
     let code = ap (λ (r : Plan). r .answer .code) (c .refuse .ensures) in
-    let no = rw (sym code) at (ne-eqb (q .send-as .result) 0 (c .before .if2 .taken)) in
-    (
+    let no = rw (sym code) at (ne-eqb (q .send-as .result) 0 (c .before .if2 .taken)) in (
       ap (λ (k : ℕ). inWords k 0 (l .0) (l .1 .0) (l .1 .1 .0) []) code ∙ (rw (w .with-fence .ensures) at (q .send-as .ensures)) ∙ sym (rw z),
       sym (rw (z, no) (ap (λ (k : ℕ). refusedPlan k (a .n) (a .p .was)) code ∙ sym (c .refuse .ensures))),
     )
@@ -48,10 +47,9 @@ returns-3 c =
     let w = fenced q in
     let l = q .send-as .last in
     let a = start w .args in
-    let z = eq-eqb (a .p .answer .code) 0 (passed w) in
-    (
+    let z = eq-eqb (a .p .answer .code) 0 (passed w) in (
       ap (λ (k : ℕ). inWords k 0 (l .0) (l .1 .0) (l .1 .1 .0) []) (passed w ∙ sym (c .if2 .left))
-      ∙ (rw (w .with-fence .ensures) at (q .send-as .ensures)) ∙ sym (rw z),
+          ∙ (rw (w .with-fence .ensures) at (q .send-as .ensures)) ∙ sym (rw z),
       sym (rw z),
     )
 
