@@ -1,15 +1,14 @@
 -- A plan carried out is the call: the crate that holds the table stores the planned record, and sends a request before.
 -- Assumes nothing.
 use Prim.Native.Nat.{ℕ, _+_, _-_, _≤_}
-use mathlib.Core.Path.{_≡_, refl, sym, ap, _∙_}
-use mathlib.Core.Bool.{true, false, not, _&&_, cond}
+use mathlib.Core.Path.{_≡_, sym, ap, _∙_}
+use mathlib.Core.Bool.{false, not, _&&_, cond}
 use mathlib.Core.List.{List}
 use native.Mathlib.Omega.{arith}
-use lib.ListN.{length, getD, take}
+use lib.ListN.{length, take}
 use lib.Seq.{set-out}
 use lib.Dec.{eqb, leb, ltb}
-use borrow.Author.Tests.{eqb-true}
-use Rattle.message.specs.Header.{isRequest, actionOf}
+use Rattle.message.specs.Header.{isRequest}
 use Rattle.message.proofs.Tests.{cases}
 use Rattle.ring.specs.Ring.{allowed}
 use Rattle.ring.specs.Numbers.{need}
@@ -19,7 +18,7 @@ use Rattle.requests.specs.declared.asking.Heard.{Heard}
 use Rattle.requests.specs.declared.planning.Plan.{Plan}
 use Rattle.requests.specs.declared.state.State.{State}
 use Rattle.requests.specs.Table.{freeRecord, stillOpen, fenceTwice, allowedLength, usable, lowestFree, setAside}
-use Rattle.requests.specs.Calls.{Wall, Outcome, wallNeeds, refused, openNumber, openBy, pickedFence, isReply}
+use Rattle.requests.specs.Calls.{Wall, wallNeeds, refused, openNumber, openBy, pickedFence, isReply}
 use Rattle.requests.specs.Calls.{replying, replyNumber, replyBy, replyAt}
 use Rattle.requests.specs.Words.{recordsWith}
 use Rattle.requests.specs.Plan.{asksRequest, asksReply, carried, refusedPlan, openPlan, replyPlan, planOf, sentPlan}

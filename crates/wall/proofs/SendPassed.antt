@@ -28,7 +28,7 @@ use Rattle.requests.specs.declared.record.Record.{Record}
 use Rattle.requests.specs.declared.planning.Answer.{Answer}
 use Rattle.wall.specs.Sent.{sentIn}
 use Rattle.wall.proofs.Types.{R, State, lentNumbers, lentTable, tableVal}
-use Rattle.wall.proofs.SendCalls.{Sender, Desc, dwordsVal}
+use Rattle.wall.proofs.SendTypes.{Sender, Desc, dwordsVal}
 use Rattle.wall.proofs.send as send
 
 -- the contract that a walk cites

@@ -1,7 +1,7 @@
 -- `wall::plan` meets its contract: a walk of its MIR, by hand, of three calls and no branch. State and table are lent to be
 -- read, and passed on for good. All that the proof knows of the three is that each meets its contract.
 -- Assumes nothing.
-use mathlib.Core.Path.{_≡_, refl, _∙_, ap, subst}
+use mathlib.Core.Path.{_≡_, refl, _∙_, ap}
 use Prim.Native.Nat.{ℕ}
 use mathlib.Core.List.{List, [], _∷_}
 use lib.Dec.{T as Holds}
@@ -61,6 +61,7 @@ use Rattle.requests.proofs.state_of.Symbol as state-def
 use Rattle.requests.proofs.state_of.Symbol.{name as #requests·state-of}
 use Rattle.requests.proofs.state_of.Met as state-thm
 use Rattle.wall.specs.Private.{kept}
+use Rattle.wall.proofs.Spelled.{state-is, plan-is}
 use Rattle.wall.proofs.Types.{R, State as Words, word64, lentNumbers, lentTable, tableVal}
 use Rattle.wall.proofs.KeptCall.{Keep, to-keep, goes-keep, keep-said}
 use Rattle.wall.proofs.StateCalls.{StateOf, to-state, goes-state, state-said}
@@ -205,12 +206,6 @@ module _ {M : Type 1} (𝓤 : URA M) (H : Heap 𝓤) (A : Atoms 𝓤) (W : Given
         $ move ! (7 ∷ 8 ∷ []) $ free1 ! $ move ! (5 ∷ 6 ∷ []) $ free1 ! $ move ! (3 ∷ 4 ∷ []) $ free1 ! $ free0 !
         $ keep ! (0 ∷ 1 ∷ 2 ∷ [])
         $ by ! (exits p (plan-is p v ip) (ej ∙ ap (λ (k : State). planOf ys n k ask) es))))))))))))))))))))))
-      where
-        state-is : (st : State) (v : Val) → Is S.the-row st (v ∷ []) → Is S.the-row st (S′.lowered st ∷ [])
-        state-is st v is = subst (Is S.the-row st) (S′.lowers .val-is st (v ∷ []) is) is
-
-        plan-is : (p : Plan) (v : Val) → Is P.the-row p (v ∷ []) → Is P.the-row p (P′.lowered p ∷ [])
-        plan-is p v ip = subst (Is P.the-row p) (P′.lowers .val-is p (v ∷ []) ip) ip
 
     walk : ent 𝓤 (onEntry 𝓤 H A f.signature (κ₁, (κ, tt)) (q₁, (q, tt)) x at)
         (WpFn 𝓤 H C Λ code.function (vptr b₁ o₁ ∷ s ∷ asked ∷ []) Post)

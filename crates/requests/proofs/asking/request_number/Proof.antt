@@ -1,6 +1,5 @@
 -- `asking::request_number` meets its contract: 14, then 27 for either of its causes. Assumes nothing.
 use mathlib.Core.Path.{sym, _∙_}
-use mathlib.Core.Bool.{and-false}
 use borrow.Author.Needs.{needs}
 use borrow.Author.Tests.{lt-leb, le-leb, not-true, not-false, eq-eqb, ne-eqb}
 use Rattle.ring.specs.Numbers.{need}

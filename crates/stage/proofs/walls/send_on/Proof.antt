@@ -63,7 +63,7 @@ use Rattle.wall.proofs.send as send
 use Rattle.wall.proofs.send.Symbol as send-def
 use Rattle.wall.proofs.send.Symbol.{name as #wall·send}
 use Rattle.wall.proofs.send.Met as send-thm
-use Rattle.wall.proofs.SendCalls.{Sender, Desc, dwordsVal}
+use Rattle.wall.proofs.SendTypes.{Sender, Desc, dwordsVal}
 use Rattle.wall.proofs.SendPassed.{Sends, SendArg, SendLeft, SentAll, send-arg, to-send, goes-send}
 use Rattle.wall.proofs.Types.{R, State, stateAgain, sliceAgain, lentNumbers, lentTable, tableVal}
 use Rattle.stage.proofs.walls.send_on.Key.{name as #stage·send-on}

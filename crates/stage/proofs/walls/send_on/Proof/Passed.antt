@@ -32,7 +32,7 @@ use Rattle.requests.specs.declared.planning.Answer.{Answer}
 use Rattle.requests.proofs.planning.Answer as N
 use Rattle.stage.proofs.walls.Called as D
 use Rattle.stage.proofs.walls.Called.Laws as D′
-use Rattle.wall.proofs.SendCalls.{Sender, Desc, dwordsVal}
+use Rattle.wall.proofs.SendTypes.{Sender, Desc, dwordsVal}
 use Rattle.wall.proofs.SendPassed.{SendLeft, SentAll}
 use Rattle.wall.proofs.Types.{State, lentNumbers}
 use Rattle.stage.proofs.walls.send_on as f
