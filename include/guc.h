@@ -364,8 +364,8 @@ GUC_ANSWER struct guc_unpacked guc_unpack(const uint32_t *msg, size_t len);
  * GUC_RECORDS_MAX; table and wall are the caller's, one call at a time. Make the wall fresh once,
  * send requests through guc_wall_send, receive, and hand each received message to guc_wall_reply.
  *
- * Each call answers 35, before any other number, for another number of records and (but for
- * guc_wall_fresh) for two open records with one fence; then 2 for a reply buffer whose N is not
+ * Each call but guc_wall_age answers 35, before any other number, for another number of records and
+ * (but for guc_wall_fresh) for two open records with one fence; then 2 for a reply buffer whose N is not
  * allowed. A send or a reply takes each record into a copy of its own once, judges and uses that,
  * and writes at most one record. */
 
@@ -379,11 +379,12 @@ GUC_ANSWER uint32_t guc_wall_fresh(struct guc_wall *wall, struct guc_record *tab
 /* Sends a request of msg_len dwords whole, as guc_send does, with a fence of the wall's in the place
  * of its own, and keeps a record of it. The fence is the next after wall's last that is not open,
  * counting up and wrapping after 65,535; the record is the lowest free one, with the action of the
- * message, and with so many reply dwords set aside as room says. A reply then finds room in the reply
- * buffer where that carries nothing but replies to open requests, and where those to each request
- * that lie there unread, busy ones too, take with it no more than its room. No dword of the message is
- * read twice: what is judged is what is sent. Where another processor reads the ring, use
- * guc_live_wall_send.
+ * message, and with so many reply dwords set aside as room says. A reply then finds room in the
+ * reply buffer, if wall's n is that buffer's, wall was made fresh and only these calls have written to
+ * it and to table, every message that lies there unread answers an open request, and those that
+ * answer one request, busy ones and the new one too, have together no more dwords than its room. No
+ * dword of the message is read twice: what is judged is what is sent. Where another processor reads
+ * the ring, use guc_live_wall_send.
  * Answers 0 and the fence, or, tested in this order, 35, 2 (wall's N), 14 (room is above 256), 27
  * (the message is malformed, or of another type than request), 26 (every record is open), 28 (what
  * all open requests have set aside plus room exceeds wall's N - 1), or the ring's own, as guc_send

@@ -4,27 +4,36 @@ use mathlib.Core.Path.{_≡_, refl, sym, ap, _∙_}
 use mathlib.Core.Bool.{Bool, true, false}
 use mathlib.Core.List.{List, [], _∷_}
 use native.Mathlib.Omega.{arith}
-use lib.ListN.{length}
+use borrow.Author.Tests.{eqb-true}
+use lib.ListN.{length, getD}
 use lib.Dec.{eqb}
-use Rattle.message.specs.Header.{withFence}
+use Rattle.message.specs.Header.{startsMessage, isMessage, headerWith, withFence}
 use Rattle.message.proofs.Tests.{cases}
+use Rattle.message.proofs.Refenced.{refenced-fence, refenced-message, request-message}
+use Rattle.ring.specs.Ring.{head, tail, status}
 use Rattle.ring.specs.Numbers.{need, firstNeeds, lookNeeds, sendLookNeeds, sendDecision, numberAt}
 use Rattle.ring.specs.AtOnce.{sendBy}
+use Rattle.ring.proofs.Chains.{true-false, ok, entered-rest}
 use Rattle.channel.specs.State.{State, idle}
 use Rattle.channel.specs.Outcome as channelOutcome
 use Rattle.channel.specs.Send
 use Rattle.channel.specs.Operations.{sendWhole}
 use Rattle.channel.proofs.SendAtOnce.{send-at-once}
 use Rattle.requests.specs.declared.planning.Answer.{Answer}
-use Rattle.requests.specs.Calls.{Wall, Outcome, openNumber, pickedFence, openBy, reply}
+use Rattle.requests.specs.Table.{stillOpen}
+use Rattle.requests.specs.Calls.{Wall, Outcome, wallNeeds, openNumber, pickedFence, openBy, reply}
 use Rattle.requests.specs.Opening.{sentFor, sendFor, sending}
 use Rattle.delivery.specs.Operations as channel
 use Rattle.delivery.specs.Operations.{Channel}
 use Rattle.delivery.proofs.Theorem.{demand3}
 use Rattle.matching.specs.Lists.{Call, openCall, AllOfRing, outcome, run, end}
 use Rattle.matching.specs.Mixed.{Step, openStep, replyStep, channelStep, Joined, sentAt, channelAfter, afterStep, joinedEnd}
-use Rattle.matching.specs.Mixed.{wallAnswers, channelSeen, seenAt, asOps, ringNumber, asCalls, MixedLists}
-use Rattle.matching.proofs.Unusable.{open-code, ringLast}
+use Rattle.matching.specs.Mixed.{wallAnswers, channelSeen, seenAt, asOps, ringNumber, asCalls, SentAs, MixedLists}
+use Rattle.matching.specs.Matching.{entryIn}
+use Rattle.matching.proofs.Tables.{still-there}
+use Rattle.matching.proofs.Fences.{next-picked, picked-below}
+use Rattle.matching.proofs.Openings.{passes}
+use Rattle.matching.proofs.Unusable.{open-code, code-of, ringLast, one-of, behind, behind-none}
 
 -- ---- a whole send
 
@@ -54,6 +63,39 @@ number-below fits own m d n =
     need-below _ 1 _ (omega arith) (need-below _ 2 _ (omega arith) (need-below _ 3 _ (omega arith)
     (need-below _ 4 _ (omega arith) (need-below _ 6 _ (omega arith) (need-below _ 7 _ (omega arith)
     (need-below _ 8 _ (omega arith) (need-below _ 10 0 (omega arith) (omega arith))))))))
+
+-- and not 4 where the message is one
+not-malformed :
+    (fits : Bool) (own : ℕ) (m d : List ℕ) (n : ℕ) → isMessage m ≡ true → numberAt fits own m d n ≡ 4 → ⊥
+unfolding sendDecision isMessage sendLookNeeds lookNeeds
+not-malformed fits own m d n t e =
+    let asked : ℕ = sendLookNeeds n own (length m) (status d) (head d) (tail d) in
+    let starts : Bool = startsMessage (length m) (getD m 0 0) (getD m 1 0) in
+    let r : need starts 4 asked ≡ 4 = entered-rest (length d) n fits (need starts 4 asked) 4 refl refl refl e in
+    one-of 4 _ 6 _ (λ e. omega arith)
+    (one-of 4 _ 7 _ (λ e. omega arith)
+    (one-of 4 _ 8 _ (λ e. omega arith) (one-of 4 _ 10 0 (λ e. omega arith) (λ e. omega arith))))
+    (sym (ok 4 t) ∙ r)
+
+-- ---- a message with a picked fence
+
+sent-as : (f : ℕ) (m : List ℕ) → f < 65536 → isMessage m ≡ true → SentAs m (withFence f m) f
+unfolding withFence isMessage headerWith
+sent-as f [] l e = true-false (sym e)
+sent-as f (h ∷ r) l e =
+    record {
+      its-fence = refenced-fence f h l;
+      other-bits = omega arith;
+      a-dword = omega arith;
+      others = refl;
+      as-long = refl;
+    }
+
+fence-below : (w : Wall) → pickedFence w < 65536
+unfolding pickedFence
+fence-below w =
+    let t = w .table in
+    rw (next-picked (stillOpen t) (entryIn t) (still-there t) (w .last)) (picked-below (entryIn t) (w .last))
 
 -- ---- an opening
 
@@ -125,13 +167,38 @@ module _ (x : Joined) (room : ℕ) (m : List ℕ) where
         buf = whole .buf;
       } ∷ [])
 
+  answer-code : sentAt x room m .answer .code ≡ ringLast (openNumber w room m) (ringNumber x m)
+  answer-code = ap (λ (a : Answer). a .code) open-answer ∙ code-of w call
+
+  -- the wall lets only messages pass
+  lets-pass : openNumber w room m ≡ 0 → isMessage m ≡ true
+  lets-pass e = request-message m (passes w room m e .is-request)
+
   -- the message sent has the fence that is answered
-  sent-fence :
-      sentAt x room m .answer .code ≡ 0 → sentFor w m ≡ withFence (sentAt x room m .answer .fence) m
+  sends : sentAt x room m .answer .code ≡ 0 → SentAs m (sentFor w m) (sentAt x room m .answer .fence)
   unfolding sending
-  sent-fence e =
+  sends e =
       let c : ℕ = sendFor w room m s d b .code in
-      ap (λ (f : ℕ). withFence f m) (answers-fence c w room m (sym (open-code c w room m) ∙ e))
+      let q : pickedFence w ≡ sentAt x room m .answer .fence =
+      answers-fence c w room m (sym (open-code c w room m) ∙ e) in
+      let z : openNumber w room m ≡ 0 =
+      cases (eqb (openNumber w room m) 0) (λ t. eqb-true _ 0 t) (λ t. rw t at (sym answer-code ∙ e)) in
+      rw (← q) (sent-as (pickedFence w) m (fence-below w) (lets-pass z))
+
+  -- and is not malformed
+  never-4 : sentAt x room m .answer .code ≡ 4 → ⊥
+  unfolding openNumber wallNeeds
+  never-4 e =
+      let c : ringLast (openNumber w room m) (ringNumber x m) ≡ 4 = sym answer-code ∙ e in
+      let walls : openNumber w room m ≡ 4 → ⊥ =
+      one-of 4 _ 35 _ (λ e. omega arith) (one-of 4 _ 2 (behind w room m) (λ e. omega arith)
+      (behind-none 4 (λ e. omega arith) (λ e. omega arith) (λ e. omega arith) (λ e. omega arith) (λ e. omega arith) w room m)) in
+      cases (eqb (openNumber w room m) 0)
+      (λ t.
+      let k : isMessage (sentFor w m) ≡ true = refenced-message (pickedFence w) m ∙ lets-pass (eqb-true _ 0 t) in
+      not-malformed (idle (length b) s) (s .own) (sentFor w m) d (length b) k
+      (sym (whole-code s (sentFor w m) d b) ∙ (rw t at c)))
+      (λ t. walls (rw t at c))
 
 -- ---- lists
 
@@ -194,7 +261,8 @@ of-ring (channelStep o ∷ ss) x = of-ring ss (afterStep x (channelStep o))
 pub mixedLists : MixedLists
 mixedLists =
     record {
-      sends = sent-fence;
+      sends = sends;
+      never-4 = never-4;
       reads =
           λ x steps. record {
             channel-end = channel-end steps x;

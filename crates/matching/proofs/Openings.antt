@@ -94,6 +94,7 @@ module _ (w : Wall) (aside : ℕ) (m : List ℕ) (ring : ℕ) where
 pub record Passes (w : Wall) (aside : ℕ) (m : List ℕ) : Type 0 where
   pub is-allowed : allowed (w .n) ≡ true
   pub narrow : aside ≤ 256
+  pub is-request : isRequest m ≡ true
   pub is-free : ltb (lowestFree (w .table)) (length (w .table)) ≡ true
   pub fits : setAside (w .table) + aside ≤ w .n - 1
 
@@ -118,8 +119,11 @@ module _ (w : Wall) (aside : ℕ) (m : List ℕ) (e : openNumber w aside m ≡ 0
   e-14 : from-14 ≡ 0
   e-14 = passed-rest (allowed (w .n)) 2 from-14 0 refl e-2
 
+  e-27 : from-27 ≡ 0
+  e-27 = passed-rest (leb aside 256) 14 from-27 0 refl e-14
+
   e-26 : from-26 ≡ 0
-  e-26 = passed-rest (isRequest m) 27 from-26 0 refl (passed-rest (leb aside 256) 14 from-27 0 refl e-14)
+  e-26 = passed-rest (isRequest m) 27 from-26 0 refl e-27
 
   e-28 : from-28 ≡ 0
   e-28 = passed-rest (ltb (lowestFree (w .table)) (length (w .table))) 26 from-28 0 refl e-26
@@ -129,6 +133,7 @@ module _ (w : Wall) (aside : ℕ) (m : List ℕ) (e : openNumber w aside m ≡ 0
       record {
         is-allowed = passed (allowed (w .n)) 2 from-14 0 refl e-2;
         narrow = leb-true aside 256 (passed (leb aside 256) 14 from-27 0 refl e-14);
+        is-request = passed (isRequest m) 27 from-26 0 refl e-27;
         is-free = passed (ltb (lowestFree (w .table)) (length (w .table))) 26 from-28 0 refl e-26;
         fits = leb-true _ _ (passed (leb (setAside (w .table) + aside) (w .n - 1)) 28 0 0 refl e-28);
       }

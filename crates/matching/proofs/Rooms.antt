@@ -15,7 +15,7 @@ use Rattle.runs.proofs.Ring.{window-length}
 use Rattle.ring.specs.Ring.{allowed, used, free, head, tail, status}
 use Rattle.ring.specs.Numbers.{need, lookNeeds, sendLookNeeds, sendDecision, numberAt}
 use Rattle.ring.proofs.Chains.{true-false, passed-rest, Entered, entered, entered-rest}
-use Rattle.channel.specs.State.{State, idle}
+use Rattle.channel.specs.State.{idle}
 use Rattle.channel.specs.Send
 use Rattle.requests.specs.declared.record.Record.{Record}
 use Rattle.requests.specs.Table.{isOpen, stillOpen, setAside}
@@ -23,11 +23,11 @@ use Rattle.requests.specs.Calls.{Wall}
 use Rattle.delivery.specs.Demand.{cut, unread}
 use Rattle.matching.specs.Map.{roomOf}
 use Rattle.matching.specs.Lists.{Call, end}
-use Rattle.matching.specs.Matching.{entryIn, madeFresh}
-use Rattle.matching.specs.Room.{fenceOf, dwordsFor, OnlyReplies, RoomForReplies}
-use Rattle.matching.proofs.Tables.{has-own, has-other, has-closed, fresh-none, fresh-open, fresh-aside}
-use Rattle.matching.proofs.Histories.{list-buffer, by-history}
-use Rattle.matching.proofs.Theorem.{clear, clear-good, fresh-made}
+use Rattle.matching.specs.Matching.{Good, entryIn, openRecords, ByHistory, madeFresh}
+use Rattle.matching.specs.Room.{fenceOf, dwordsFor, OnlyReplies, FindsRoom, RoomForReplies}
+use Rattle.matching.proofs.Tables.{has-own, has-other, has-closed, fresh-open}
+use Rattle.matching.proofs.Histories.{list-buffer}
+use Rattle.matching.proofs.Theorem.{clear, clear-good, fresh-made, empty-table}
 use Rattle.matching.proofs.Mixing.{whole-code}
 
 -- ---- how many dwords messages have
@@ -179,34 +179,44 @@ module _ (fits : Bool) (own : ℕ) (m d : List ℕ) (n : ℕ) (e : numberAt fits
 
 -- ---- the statement
 
-finds-room :
-    (w : Wall) (s : State) (d b m : List ℕ) → setAside (w .table) ≤ w .n - 1 → OnlyReplies w d b m
-    → Send.whole s m d b .code ≡ 10 → ⊥
-finds-room w s d b m a o e =
-    let t : List Record = w .table in
-    let ms : List (List ℕ) = m ∷ unread d b in
-    let f : TooFull m d (length b) =
-    too-full (idle (length b) s) (s .own) m d (length b) (sym (whole-code s m d b) ∙ e) in
-    let l : total ms ≤ setAside t =
-    all-within t ms
-    (λ g. cases (stillOpen t g)
-    (λ q. o .within g q)
-    (λ q. omega (arith, none-else t g q ms (o .to-open)))) in
-    let u = unread-total d b (f .some-dwords) in
-    let k : length m + total (unread d b) ≤ setAside t = unfold total in l in
-    omega (arith, o .its-buffer, f .too-long, used-below (length b) (head d) (tail d) (f .some-dwords))
+module _ (w : Wall) (d b m : List ℕ) (a : setAside (w .table) ≤ w .n - 1) (o : OnlyReplies w d b m) where
+  not-10 : (fits : Bool) (own : ℕ) → numberAt fits own m d (length b) ≡ 10 → ⊥
+  not-10 fits own e =
+      let t : List Record = w .table in
+      let ms : List (List ℕ) = m ∷ unread d b in
+      let f : TooFull m d (length b) = too-full fits own m d (length b) e in
+      let l : total ms ≤ setAside t =
+      all-within t ms
+      (λ g. cases (stillOpen t g)
+      (λ q. o .within g q)
+      (λ q. omega (arith, none-else t g q ms (o .to-open)))) in
+      let u = unread-total d b (f .some-dwords) in
+      let k : length m + total (unread d b) ≤ setAside t = unfold total in l in
+      omega (arith, o .its-buffer, f .too-long, used-below (length b) (head d) (tail d) (f .some-dwords))
+
+  finds-room : FindsRoom d b m
+  unfolding Send.lookBy
+  finds-room =
+      record {
+        whole = λ s e. not-10 (idle (length b) s) (s .own) (sym (whole-code s m d b) ∙ e);
+        look = λ s e. not-10 (idle (length b) s) (s .own) e;
+      }
+
+after-calls-empty :
+    (w : Wall) → Good (w .table) → openRecords (w .table) ≡ 0 → (list : List Call)
+    → (d b m : List ℕ) → OnlyReplies (end w list) d b m → FindsRoom d b m
+after-calls-empty w g z list d b m o =
+    let y : ByHistory w list = empty-table w g z list in
+    let q : setAside (end w list .table) ≤ end w list .n - 1 =
+    omega (arith, y .sum, y .within, list-buffer list w g) in
+    finds-room (end w list) d b m q o
 
 after-calls :
     (w : Wall) (n : ℕ) → 1 ≤ length (w .table) → length (w .table) ≤ 256 → allowed n ≡ true → (list : List Call)
-    → (s : State) (d b m : List ℕ) → OnlyReplies (end (madeFresh w n) list) d b m
-    → Send.whole s m d b .code ≡ 10 → ⊥
-after-calls w n l h a list s d b m o e =
+    → (d b m : List ℕ) → OnlyReplies (end (madeFresh w n) list) d b m → FindsRoom d b m
+after-calls w n l h a list d b m o =
     let k : ℕ = length (w .table) in
-    let g = clear-good k n l h in
-    let y = by-history (clear k n) list g (fresh-aside k) (fresh-open k) (fresh-none k) in
-    let q : setAside (end (clear k n) list .table) ≤ end (clear k n) list .n - 1 =
-    omega (arith, y .sum, y .within, list-buffer list (clear k n) g) in
-    finds-room (end (madeFresh w n) list) s d b m (rw (fresh-made w n l h a) q) o e
+    after-calls-empty (clear k n) (clear-good k n l h) (fresh-open k) list d b m (rw (fresh-made w n l h a) at o)
 
 pub roomForReplies : RoomForReplies
-roomForReplies = record { finds-room = finds-room; after-calls = after-calls }
+roomForReplies = record { finds-room = finds-room; after-calls = after-calls; after-calls-empty = after-calls-empty }

@@ -28,7 +28,7 @@ use Rattle.matching.proofs.Openings.{as-many-open, as-aside, fence-pick
 use Rattle.matching.proofs.Steps.{Zeros, Did, refuses, opens, did, did-size, did-zeros, did-count, did-other, step-same}
 use Rattle.matching.proofs.Steps.{did-open, did-answer}
 use Rattle.matching.proofs.Unusable.{bad-table, bad-buffer, good-buffer, fresh-length, fresh-buffer, refused-leaves}
-use Rattle.matching.proofs.Unusable.{free-is-0}
+use Rattle.matching.proofs.Unusable.{ring-buffer, free-is-0}
 use Rattle.matching.proofs.Order.{in-order}
 use Rattle.matching.proofs.Histories.{after-good, by-history}
 
@@ -191,7 +191,7 @@ module _ (w : Wall) (n : ℕ) (l : 1 ≤ length (w .table)) (h : length (w .tabl
 
 -- ---- from any table in which nothing is open
 
-empty-table : (w : Wall) → Good (w .table) → openRecords (w .table) ≡ 0 → (list : List Call) → ByHistory w list
+pub empty-table : (w : Wall) → Good (w .table) → openRecords (w .table) ≡ 0 → (list : List Call) → ByHistory w list
 empty-table w g z list =
     by-history w list g (none-aside (w .table) z) z
     (λ f. entry-none (w .table) f (λ k. has-closed f _ (none-open (w .table) z k)))
@@ -207,6 +207,7 @@ wallIsMap =
       bad-table = bad-table;
       bad-buffer = bad-buffer;
       good-buffer = good-buffer;
+      ring-buffer = ring-buffer;
       fresh-length = fresh-length;
       fresh-buffer = fresh-buffer;
       refused-leaves = refused-leaves;

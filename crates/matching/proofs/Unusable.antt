@@ -14,7 +14,7 @@ use Rattle.message.specs.declared.Message.{Message}
 use Rattle.message.proofs.Tests.{cases}
 use Rattle.ring.specs.Ring.{allowed}
 use Rattle.ring.specs.Numbers.{need}
-use Rattle.ring.proofs.Chains.{true-false}
+use Rattle.ring.proofs.Chains.{true-false, ok}
 use Rattle.requests.specs.declared.record.Record.{Record}
 use Rattle.requests.specs.declared.asking.Heard.{Heard}
 use Rattle.requests.specs.Table.{usable, isOpen, stillOpen, allowedLength, lowestFree, setAside}
@@ -75,7 +75,7 @@ behind w room m =
 abbrev behindReply : Wall → Heard → ℕ
 behindReply w h = need (eqb (h .code) 0) (h .code) (need (stillOpen (w .table) (h .fence) && isReply (h .kind)) 27 0)
 
-behind-none :
+pub behind-none :
     (x : ℕ) → (14 ≡ x → ⊥) → (27 ≡ x → ⊥) → (26 ≡ x → ⊥) → (28 ≡ x → ⊥) → (0 ≡ x → ⊥)
     → (w : Wall) (room : ℕ) (m : List ℕ) → behind w room m ≡ x → ⊥
 behind-none x a b c d z w room m =
@@ -133,6 +133,19 @@ good-buffer w received a e =
     let rest = need (allowed (w .n)) 2 (behindReply w (heardOf received)) in
     one-of 2 (usable (w .table)) 35 rest (λ e. omega arith) (unfold need in (rw a q))
     (sym (code-of w (replyCall received)) ∙ e)
+
+pub ring-buffer :
+    (w : Wall) (room : ℕ) (m : List ℕ) (ring : ℕ) → allowed (w .n) ≡ true
+    → outcome w (openCall room m ring) .answer .code ≡ 2 → ring ≡ 2
+unfolding openNumber wallNeeds
+ring-buffer w room m ring a e =
+    let c : ringLast (openNumber w room m) ring ≡ 2 = sym (code-of w (openCall room m ring)) ∙ e in
+    let q : behind w room m ≡ 2 → ⊥ =
+    behind-none 2 (λ e. omega arith) (λ e. omega arith) (λ e. omega arith) (λ e. omega arith) (λ e. omega arith) w room m in
+    let rest : ℕ = need (allowed (w .n)) 2 (behind w room m) in
+    cases (eqb (openNumber w room m) 0)
+    (λ z. rw z at c)
+    (λ z. absurd (one-of 2 (usable (w .table)) 35 rest (λ e. omega arith) (λ r. q (sym (ok 2 a) ∙ r)) (rw z at c)))
 
 -- ---- a table that is not made fresh
 

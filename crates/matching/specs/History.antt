@@ -1,5 +1,5 @@
 -- T-08's 'requests opened and not yet closed, defined from the history': from the calls and their answers alone. No table
--- is known here.
+-- is known here. The calls are openings and replies; making the wall fresh starts a new history.
 use Prim.Native.Nat.{ℕ, _+_}
 use mathlib.Core.Bool.{not, _&&_, cond}
 use mathlib.Core.List.{List, [], _∷_}

@@ -1,4 +1,5 @@
--- Lists of openings and replies, run on a wall and on the plain map.
+-- Lists of openings and replies, run on a wall and on the plain map. Making the wall fresh is no call of a list: it starts
+-- a new one.
 use Prim.Native.Nat.{ℕ, _+_, _<_}
 use mathlib.Core.Bool.{not, _&&_, cond}
 use mathlib.Core.List.{List, [], _∷_}

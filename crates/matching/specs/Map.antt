@@ -1,5 +1,6 @@
 -- T-06's 'plain map from fences to requests', with openings and replies over it, in the request's own words and in those
--- of T-08: it knows no table, no places, and none of the definitions that the calls of a wall are made of.
+-- of T-08: it knows no table, no places, and none of the definitions of `requests` but the shape of an answer. (What an
+-- allowed N, a message and a message's fields are, `ring` and `message` say.)
 use Prim.Native.Nat.{ℕ, zero, suc, _+_, _-_, _%_}
 use mathlib.Core.Bool.{Bool, true, false, _&&_, cond}
 use mathlib.Core.List.{List}

@@ -168,7 +168,8 @@ pub record FromFresh (w : Wall) (list : List Call) : Type 0 where
       openings list (run w list) ≡ closings list (run w list)
       → end w list .table ≡ replicate (length (w .table)) allZeros
 
--- of a wall in which nothing was open: T-08, 'over any calls from an empty table that nothing else writes'
+-- of a wall in which nothing was open: T-08, 'over any calls from an empty table that nothing else writes'. The calls are
+-- openings and replies; making the wall fresh starts a new history
 pub record ByHistory (w : Wall) (list : List Call) : Type 0 where
   -- 'the sum set aside is that of requests opened and not yet closed'
   pub sum : setAside (end w list .table) ≡ sumOf (stillHeld list (run w list))
@@ -212,12 +213,16 @@ pub record WallIsMap : Type 0 where
   -- 'Another table length, or two open records with one fence, is 35, before all else.': every opening and reply
   -- answers it exactly where its table is one of the two
   pub bad-table : (w : Wall) (c : Call) → OfRing c → (outcome w c .answer .code ≡ 35) ↔ (Taken (w .table) → ⊥)
-  -- then 'the reply buffer's N (one not allowed is 2 in every call)'; of an opening the ring's own number may be 2 as well
+  -- then 'the reply buffer's N (one not allowed is 2 in every call)'; where N is allowed no reply answers 2, and an opening
+  -- only where the ring does
   pub bad-buffer :
       (w : Wall) (c : Call) → Taken (w .table) → allowed (w .n) ≡ false → outcome w c ≡ turnedAway 2 w
   pub good-buffer :
       (w : Wall) (received : Option Message) → allowed (w .n) ≡ true
       → outcome w (replyCall received) .answer .code ≡ 2 → ⊥
+  pub ring-buffer :
+      (w : Wall) (room : ℕ) (m : List ℕ) (ring : ℕ) → allowed (w .n) ≡ true
+      → outcome w (openCall room m ring) .answer .code ≡ 2 → ring ≡ 2
   -- of a table that is made fresh the length alone is asked; then N
   pub fresh-length :
       (w : Wall) (n : ℕ) → ((1 ≤ length (w .table)) × (length (w .table) ≤ 256) → ⊥) → fresh w n ≡ turnedAway 35 w

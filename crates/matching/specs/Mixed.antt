@@ -1,14 +1,14 @@
 -- T-08: 'Opening now .. sends it whole with the picked fence, read in demand 3 as that whole send'. Lists that mix openings
 -- and replies of a wall with any steps and whole calls of both sides of the channel that it sends through, its own sender
 -- among them. (The replies come from a receiver on another channel, or from anywhere.)
-use Prim.Native.Nat.{ℕ}
+use Prim.Native.Nat.{ℕ, _%_, _<_}
 use mathlib.Core.Path.{_≡_}
 use mathlib.Core.Bool.{true, cond}
 use mathlib.Core.List.{List, [], _∷_, _++_}
 use mathlib.Core.Option.{Option}
-use lib.ListN.{length}
+use lib.ListN.{length, getD, drop}
 use lib.Dec.{eqb}
-use Rattle.message.specs.Header.{withFence}
+use Rattle.message.specs.Fields.{fence, fieldOf}
 use Rattle.message.specs.declared.Message.{Message}
 use Rattle.ring.specs.Ring.{allowed}
 use Rattle.channel.specs.Send
@@ -113,6 +113,16 @@ asCalls x (s ∷ ss) = asCall x s ++ asCalls (afterStep x s) ss
 
 -- ---- the statement
 
+-- a message m as it is sent with a picked fence, in figures
+pub record SentAs (m sent : List ℕ) (picked : ℕ) : Type 0 where
+  -- 'fence 31:16' of its header, which is a dword; the bits below are the caller's
+  pub its-fence : fieldOf fence (getD sent 0 0) ≡ picked
+  pub other-bits : getD sent 0 0 % 65536 ≡ getD m 0 0 % 65536
+  pub a-dword : getD sent 0 0 < 4294967296
+  -- every other dword is the caller's
+  pub others : drop 1 sent ≡ drop 1 m
+  pub as-long : length sent ≡ length m
+
 -- after every list, from any wall and any channel
 pub record ReadAs (x : Joined) (steps : List Step) : Type 0 where
   -- the channel, and all that is seen of it, is that of demand 3's list
@@ -128,7 +138,9 @@ pub record MixedLists : Type 0 where
   -- 'sends it whole with the picked fence': what an opening answered 0 sent is the message with the fence that it answers
   pub sends :
       (x : Joined) (room : ℕ) (m : List ℕ) → sentAt x room m .answer .code ≡ 0
-      → sentFor (x .wall) m ≡ withFence (sentAt x room m .answer .fence) m
+      → SentAs m (sentFor (x .wall) m) (sentAt x room m .answer .fence)
+  -- 'malformed or another type: 27': what passed it is well formed with the picked fence too, so the ring's 4 never comes
+  pub never-4 : (x : Joined) (room : ℕ) (m : List ℕ) → sentAt x room m .answer .code ≡ 4 → ⊥
   pub reads : (x : Joined) (steps : List Step) → ReadAs x steps
   -- 'read in demand 3': from a channel just opened, with any wall, demand 3 holds of the list
   pub demands :

@@ -15,7 +15,7 @@ use Rattle.requests.specs.Calls.{Wall}
 use Rattle.delivery.specs.Demand.{unread}
 use Rattle.matching.specs.Map.{roomOf}
 use Rattle.matching.specs.Lists.{Call, end}
-use Rattle.matching.specs.Matching.{entryIn, madeFresh}
+use Rattle.matching.specs.Matching.{Good, entryIn, openRecords, madeFresh}
 
 -- the fence in a message's header
 abbrev pub fenceOf : List ℕ → ℕ
@@ -37,13 +37,21 @@ pub record OnlyReplies (w : Wall) (d b m : List ℕ) : Type 0 where
   pub within :
       (f : ℕ) → stillOpen (w .table) f ≡ true → dwordsFor f (m ∷ unread d b) ≤ roomOf (entryIn (w .table) f)
 
+-- a reply m finds room: from any state of the sender neither a whole send of it nor its look is refused by 10 (whoever
+-- sends the replies may send in steps)
+pub record FindsRoom (d b m : List ℕ) : Type 0 where
+  pub whole : (s : State) → Send.whole s m d b .code ≡ 10 → ⊥
+  pub look : (s : State) → Send.look s m d b .code ≡ 10 → ⊥
+
 pub record RoomForReplies : Type 0 where
-  -- a whole send of the reply, from any state, is not refused by 10, where the wall sets aside no more than the buffer has
+  -- where the wall sets aside no more than N - 1
   pub finds-room :
-      (w : Wall) (s : State) (d b m : List ℕ) → setAside (w .table) ≤ w .n - 1 → OnlyReplies w d b m
-      → Send.whole s m d b .code ≡ 10 → ⊥
+      (w : Wall) (d b m : List ℕ) → setAside (w .table) ≤ w .n - 1 → OnlyReplies w d b m → FindsRoom d b m
   -- as after every list of calls on a wall that was made fresh
   pub after-calls :
       (w : Wall) (n : ℕ) → 1 ≤ length (w .table) → length (w .table) ≤ 256 → allowed n ≡ true → (list : List Call)
-      → (s : State) (d b m : List ℕ) → OnlyReplies (end (madeFresh w n) list) d b m
-      → Send.whole s m d b .code ≡ 10 → ⊥
+      → (d b m : List ℕ) → OnlyReplies (end (madeFresh w n) list) d b m → FindsRoom d b m
+  -- and on any in which nothing was open
+  pub after-calls-empty :
+      (w : Wall) → Good (w .table) → openRecords (w .table) ≡ 0 → (list : List Call)
+      → (d b m : List ℕ) → OnlyReplies (end w list) d b m → FindsRoom d b m

@@ -1,7 +1,7 @@
 -- An opening of a wall: its number is that of the first row that is given, the ring's own last, and a refused one leaves the
--- wall and, but for STATUS, the channel. Assumes nothing.
+-- wall and, but for STATUS, the channel. Any leaves reserved words. Assumes nothing.
 use Prim.Native.Nat.{ℕ, suc, _+_, _-_}
-use mathlib.Core.Path.{_≡_, refl, ap, _∙_}
+use mathlib.Core.Path.{_≡_, refl, sym, ap, _∙_}
 use mathlib.Core.Bool.{true, false, not, _&&_}
 use mathlib.Core.List.{List, [], _∷_, map}
 use native.Mathlib.Omega.{arith}
@@ -24,7 +24,8 @@ use Rattle.refusals.specs.Order.{AllPass}
 use Rattle.refusals.specs.WallRows.{allOpen, openOnes, requestTests, sendRequestTests, sum}
 use Rattle.refusals.specs.WallRows.{row-14-room, row-26, row-27-request, row-28}
 use Rattle.refusals.specs.Table.{operationRows}
-use Rattle.refusals.specs.Left.{RequestRefused, descriptorLeft, offsetPast, stateLeft}
+use Rattle.refusals.specs.Left.{RequestRefused, ReservedStay, butReserved, descriptorLeft, offsetPast}
+use Rattle.refusals.specs.Left.{reservedWords, stateLeft, unreservedWords}
 use Rattle.refusals.proofs.Laws.{lookingSend, not-one, one-need, oneOf}
 use Rattle.refusals.proofs.Lowest.{accepts, allRise, firstJudged, firstOf, rising}
 use Rattle.refusals.proofs.Rows.{below, either-fails, send-looks}
@@ -174,3 +175,30 @@ module _ (w : Wall) (room : ℕ) (m : List ℕ) where
           buffer = buffer-stays n;
           untouched = untouched;
         }
+
+  -- ---- reserved words, by the whole send or by a refusal that leaves the descriptor
+
+  module _ (s : State) (b : List ℕ) where
+    refused-alike :
+        (d e : List ℕ) → unreservedWords d ≡ unreservedWords e
+        → butReserved (channel.refused (openNumber w room m) s d b []) ≡ butReserved (channel.refused (openNumber w room m) s e b [])
+    refused-alike d e f = ap (λ (x : List ℕ). channel.refused (openNumber w room m) s x b []) f
+
+    unchanged : (d : List ℕ) → reservedWords (sendFor w room m s d b .desc) ≡ reservedWords d
+    unchanged d =
+        cases (eqb (openNumber w room m) 0)
+        (λ p. ap (λ (x : channel.Outcome). reservedWords (x .desc)) (past-wall s d b p)
+        ∙ send-whole s (sentFor w m) b .stay .unchanged d)
+        (λ p. ap (λ (x : channel.Outcome). reservedWords (x .desc)) (by-wall s d b p))
+
+    unjudged :
+        (d e : List ℕ) → length d ≡ length e → unreservedWords d ≡ unreservedWords e
+        → butReserved (sendFor w room m s d b) ≡ butReserved (sendFor w room m s e b)
+    unjudged d e l f =
+        cases (eqb (openNumber w room m) 0)
+        (λ p. ap butReserved (past-wall s d b p) ∙ send-whole s (sentFor w m) b .stay .unjudged d e l f
+        ∙ sym (ap butReserved (past-wall s e b p)))
+        (λ p. ap butReserved (by-wall s d b p) ∙ refused-alike d e f ∙ sym (ap butReserved (by-wall s e b p)))
+
+    pub send-reserved : ReservedStay (λ (d : List ℕ). sendFor w room m s d b)
+    send-reserved = record { unchanged = unchanged; unjudged = unjudged }

@@ -21,7 +21,7 @@ use Rattle.firmware.specs.declared.bytes.Located.{Located}
 use Rattle.firmware.specs.declared.css.Component.{Component}
 use Rattle.firmware.specs.declared.figures.Figures.{Figures}
 use Rattle.requests.specs.Calls.{Wall, fresh, reply}
-use Rattle.requests.specs.Opening.{sending}
+use Rattle.requests.specs.Opening.{sendFor, sending}
 use Rattle.refusals.specs.Order.{Row, Answered, AllPass}
 use Rattle.refusals.specs.Table.{fits, row-4, row-14-fields, openingRows, operationRows}
 use Rattle.refusals.specs.Table.{imageRows, directoryRows, seekTests, entryRows, manifestRows}
@@ -200,3 +200,7 @@ pub record Demand1 : Type 0 where
   pub fit-no-call : (op : Op) (n : ℕ) → fits op n (idleAt 0 0) ≡ false
   -- 'Reserved words are neither judged nor changed'
   pub reserved-words : (op : Op) (s : State) (b : List ℕ) → ReservedStay (λ (d : List ℕ). gives op s d b)
+  -- 'Reserved words are neither judged nor changed' by an opening that sends either: its answer and its wall follow from
+  -- the number in what the sender gives (`sending`)
+  pub reserved-words-request :
+      (w : Wall) (room : ℕ) (m : List ℕ) (s : State) (b : List ℕ) → ReservedStay (λ (d : List ℕ). sendFor w room m s d b)

@@ -47,8 +47,8 @@ refused c w = record { answer = numberAlone c; wall = w }
 
 -- ---- 'A fresh .. record is free and all zeros; the last fence starts at 65,535.'
 
--- Of the table only the length is judged, so many records: nobody has made it yet. n is the N that the wall is made for: 'one
--- not allowed is 2'.
+-- Of the table only its length is judged, how many records it has: nobody has made it yet. n is the N that the wall is made
+-- for: 'one not allowed is 2'.
 unfoldable pub freshNumber : ℕ → ℕ → ℕ
 freshNumber records n = need (allowedLength records) 35 (need (allowed n) 2 0)
 
@@ -92,7 +92,7 @@ abbrev pub openRecord : ℕ → ℕ → ℕ → Record
 openRecord fence action room = record { «is_open» = 1; fence = fence; action = action; count = 0; room = room }
 
 -- an opening whose number is c, the ring's own among them: it 'uses the lowest free record', with the action of the message
--- sent (but for its fence that is the caller's); 'An opening answers its fence', which is the last one used from then on.
+-- sent (its second dword is the caller's); 'An opening answers its fence', which is the last one used from then on.
 -- 'if the ring refuses, table and last fence stay'
 unfoldable pub openBy : ℕ → Wall → ℕ → List ℕ → Outcome
 openBy c w room m =

@@ -71,8 +71,9 @@ examples =
 
 of-walls : Each walls
 unfolding
-    Each walls Inputs.countUp Inputs.dwords Inputs.descriptorWith Inputs.buffer
+    Each walls Inputs.countUp Inputs.dwords Inputs.descriptorWith Inputs.buffer Inputs.bufferOf
     typeOf carried bodyFields bodiesFrom bodies ofType bodyOf someBody known wellFormed isMessage isRequest headerWith withFence
+    originOf decoded unpack Option·elim
     allowed used free zeros allZero idle activeSend moves need firstNeeds lookNeeds sendLookNeeds marked sendDecision
     Send.lookBy Send.moveNumber Send.moveBy Send.publishNumber Send.publishBy Send.afterLook
     age signed after firstClosed nextFence isOpen hasFence stillOpen fenceTwice allowedLength usable lowestFree placeOf setAside
@@ -81,6 +82,7 @@ unfolding
     Calls.replyBy Calls.heardOf sendFor sending
 of-walls =
     refl & refl & refl & refl & refl & refl & refl & refl & refl & refl
+    & refl & refl & refl & refl & refl & refl & refl & refl & refl & refl
     & refl & refl & refl & refl & refl & refl & refl & refl & refl & refl
     & refl & refl & refl & refl & refl & refl & refl & refl & refl & refl
     & refl & refl & refl & refl & refl & refl & refl & refl & refl & refl

@@ -38,7 +38,7 @@ use Rattle.refusals.proofs.Files.{alone, directory-number, entry-number
 use Rattle.refusals.proofs.Files.{image-number, location-refused, manifest-number, packs}
 use Rattle.refusals.proofs.Files.{reading-refused, refused-nothing, seek-number, unpacks}
 use Rattle.refusals.proofs.Walls.{fresh-number, fresh-refused, received-number, reply-number, reply-refused}
-use Rattle.refusals.proofs.Requests.{send-number, send-refused}
+use Rattle.refusals.proofs.Requests.{send-number, send-refused, send-reserved}
 use Rattle.refusals.proofs.demand_1.Statement.{statement}
 use Rattle.refusals.proofs.demand_1.Tie as tie
 
@@ -193,6 +193,7 @@ demand1 =
       left = left;
       opening-buffer = λ d b. refl;
       reserved-words = operation-reserved;
+      reserved-words-request = send-reserved;
       fit-no-call = no-call;
     }
 
