@@ -19,7 +19,7 @@ TOP = os.path.join(os.path.dirname(os.path.realpath(__file__)), "..")
 TABLE = os.path.join(TOP, "tools", "respell.tsv")
 WORD = re.compile(r'[^\s(){}.;,@"«»`]+')
 HEAD = re.compile(r"^(\s*)(?:(?:abbrev|unfoldable|pub|ghost) )*(record |data )?([^\s(){}.;,@:\"]+)((?: +\([^)]*\)| +\{[^}]*\})*) *:(?:\s|$)(.*)")
-USE = re.compile(r"(?:^|\n)\s*(?:pub )?(?:ghost )?use ([\w.·]+)(?:\.\{([^}]*)\})?")
+USE = re.compile(r"(?:^|\n)\s*(?:pub )?(?:ghost )?use ([\w·+]+(?:\.[\w·+]+)*)(?:\.\{([^}]*)\})?")
 CLAUSE = re.compile(r"(?:requires|ensures)\s*\*?\s*(?:\w+\s*)?\{|ghost\s*(?:\w+\s*(?::\s*(?:(?:owns|lends)\s*)?|=\s*))?\{")
 MADE = re.compile(r"\b(?:tie|lts|goal|Lts|Tie)\.[\w-]*")
 

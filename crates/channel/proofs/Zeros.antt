@@ -1,7 +1,7 @@
 -- A copy of zeros: what the loop that joins its dwords has after a turn. Assumes nothing.
 use Prim.Native.Nat.{ℕ, zero, suc, ◌+◌, ◌-◌, ◌*◌, ◌≤◌, ◌<◌, ◌^◌}
 use mathlib.Core.Path.{◌≡◌, refl, sym, ap, ◌∙◌}
-use mathlib.Core.Bool.{Bool, ◌&&◌, and_assoc, and_true}
+use mathlib.Core.Bool.{Bool, ◌&&◌, and_assoc, and-true}
 use mathlib.Core.List.{List, [], ◌∷◌, ◌++◌}
 use native.Mathlib.Nat.{sub-zero}
 use native.Mathlib.Numerals.{add-one}
@@ -9,7 +9,7 @@ use native.Mathlib.Omega.{arith}
 use lib.Bits.{bit_or, or_add_and, and_le_r, or_zero_l}
 use lib.Dec.{eqb}
 use lib.ListN.{length, get_or, take, drop, drop_of_length-le}
-use lib.Seq.{drop-cons, drop-drop, take_suc}
+use lib.Seq.{drop-cons, drop-drop, take-suc}
 use borrow.Author.Tests.{ne_eqb}
 use Rattle.message.proofs.Slices.{to_end}
 use Rattle.channel.specs.State.{all_zero}
@@ -32,7 +32,7 @@ zero_more j s i h =
 -- after the last turn the join alone tells
 pub zero_end : (j : ℕ) (s : List ℕ) (i : ℕ) → length s ≤ i → (eqb j 0 && all_zero (drop i s)) ≡ eqb j 0
 unfolding all_zero
-zero_end j s i h = rw (drop_of_length-le s h) (and_true _)
+zero_end j s i h = rw (drop_of_length-le s h) (and-true _)
 
 -- the dwords of two parts
 pub zero_both : (xs ys : List ℕ) → all_zero (xs ++ ys) ≡ (all_zero xs && all_zero ys)
@@ -56,8 +56,8 @@ pair_zero (suc x) y = rw (ne_eqb (suc x) 0 (λ e. omega arith)) (ne_eqb (suc x +
 zero_suc : (s : List ℕ) (i : ℕ) → i < length s → all_zero (take (suc i) s) ≡ (all_zero (take i s) && eqb (get_or s i 0) 0)
 unfolding all_zero
 zero_suc s i h =
-    ap all_zero (take_suc s i 0 h) ∙ zero_both (take i s) (get_or s i 0 ∷ [])
-    ∙ ap (λ (t : Bool). all_zero (take i s) && t) (and_true (eqb (get_or s i 0) 0))
+    ap all_zero (take-suc s i 0 h) ∙ zero_both (take i s) (get_or s i 0 ∷ [])
+    ∙ ap (λ (t : Bool). all_zero (take i s) && t) (and-true (eqb (get_or s i 0) 0))
 
 -- a turn of the loop that joins the dwords of s two by two, of which j is the join so far
 pub pair_more :

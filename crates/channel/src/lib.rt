@@ -1,5 +1,7 @@
 // One command transport buffer (CTB) in one direction: its opening, and the steps and whole calls of its sender and its
 // receiver, with states by value.
+#![tactic(auto)]
+
 mod opening;
 mod receiving;
 mod sending;

@@ -1,5 +1,7 @@
 // Walks a channel of 1,024 dwords through what it accepts and what it refuses, a few printed lines for each thing that
 // happens.
+#![tactic(auto)]
+
 mod broken;
 mod calls;
 mod filling;

@@ -9,7 +9,7 @@ use native.Mathlib.Omega.{arith}
 use native.Mathlib.Numerals.{add-one}
 use borrow.Author.Tests.{leb-true, eqb-false, le-leb, ne_eqb}
 use lib.ListN.{length, get_or, take, drop, set, replicate, get_or-append, length-append}
-use lib.Seq.{take_suc, take_all, get_or-take, length-take-le, set_at, append_snoc, take-append_seam, drop-append_seam, drop_at}
+use lib.Seq.{take-suc, take_all, get_or-take, length-take-le, set_at, append_snoc, take-append_seam, drop-append_seam, drop_at}
 use lib.Dec.{leb, eqb}
 use Rattle.message.specs.Header.{is_message, total_length, well_formed}
 use Rattle.message.proofs.Formed.{message-formed, message-length, message_long, message-short}
@@ -102,7 +102,7 @@ module _ (n : ℕ) (b : List ℕ) (P R : ℕ) (s : Sending) where
   sim_look [] not_receiving g = rw (look-code [] not_receiving g) (record { same = refl; other = refl; good = g })
   sim_look (m ∷ q) not_receiving g =
       let long : 2 ≤ length m = message_long m g.all-messages.0 in
-      let one : get_or m 0 0 ∷ [] ≡ take 1 m = sym (take_suc m 0 0 (omega arith)) in
+      let one : get_or m 0 0 ∷ [] ≡ take 1 m = sym (take-suc m 0 0 (omega arith)) in
       rw (look-code (m ∷ q) not_receiving g)
       (record {
         same =
@@ -183,7 +183,7 @@ module _ (n : ℕ) (b : List ℕ) (P R : ℕ) (s : Sending) where
       let v : get_or b ((R % n + k) % length b) 0 ≡ get_or m k 0 = rw (g.size, mod-add-mod) (first-dword m q (receiving k) g k h) in
       let z : List ℕ = replicate (256 - (k + 1)) 0 in
       let t : take k m ++ (get_or m k 0 ∷ []) ≡ take (k + 1) m =
-      sym (take_suc m k 0 h) ∙ ap (λ (x : ℕ). take x m) (sym (add-one k)) in
+      sym (take-suc m k 0 h) ∙ ap (λ (x : ℕ). take x m) (sym (add-one k)) in
       ap (λ (x : ℕ). set (take k m ++ replicate x 0) k (get_or b ((R % n + k) % length b) 0)) e
       ∙ set_at (take k m) 0 z _ k (length-take-le k m (omega arith))
       ∙ ap (λ (x : ℕ). take k m ++ x ∷ z) v

@@ -9,7 +9,7 @@ use native.Mathlib.Omega.{arith}
 use native.Mathlib.Numerals.{add-one}
 use borrow.Author.Tests.{leb-true, eqb-false}
 use lib.ListN.{length, get_or, take, set, replicate, get_or-append, length-set, length-append}
-use lib.Seq.{get_or-set_same, take_suc, take_all}
+use lib.Seq.{get_or-set_same, take-suc, take_all}
 use lib.Dec.{leb, eqb}
 use Rattle.message.specs.Header.{is_message, total_length}
 use Rattle.message.proofs.Formed.{message-formed, message-length, message_long, message-short}
@@ -147,7 +147,7 @@ module _ (n : ℕ) (b : List ℕ) (q : List (List ℕ)) (P R : ℕ) (r : Receivi
         (λ t lo hi. apart n t (P + k) (omega arith) (omega (arith, g.send.fits)))
         ∙ g.send.done in
         let v : get_or c ((P + k) % n) 0 ≡ get_or m k 0 = get_or-set_same b ((P + k) % n) (get_or m k 0) 0 o in
-        window-append c n P k 1 ∙ (λ i. w i ++ (v i ∷ [])) ∙ sym (take_suc m k 0 h) ∙ ap (λ (x : ℕ). take x m) (sym (add-one k))
+        window-append c n P k 1 ∙ (λ i. w i ++ (v i ∷ [])) ∙ sym (take-suc m k 0 h) ∙ ap (λ (x : ℕ). take x m) (sym (add-one k))
 
     store_good : Inv (plain n (set b ((P + k) % n) (get_or m k 0)) q P R (sending (k + 1) m) r)
     store_good =

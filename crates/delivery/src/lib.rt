@@ -1,6 +1,8 @@
 // Demand 3, that over every list of operations the channel does what document 01's plain channel does, is stated in
 // specs/Demand.antt and proved in proofs/Theorem.antt. Here it is the contract of a function, and a self-test follows
 // from it.
+#![tactic(auto)]
+
 ghost use Rattle.std.specs.Prelude.{◌≡◌};
 ghost use Rattle.delivery.specs.Demand.{Demand3};
 ghost use Rattle.delivery.specs.HalfWhole.{HalfWhole};

@@ -1,4 +1,6 @@
 // The demonstration: a channel of 1,024 dwords with a picture of its ring, and a firmware file with its parts.
+#![tactic(auto)]
+
 mod calls;
 mod files;
 mod order;

@@ -1,5 +1,7 @@
 // The worked examples of document 01, 'Both sides of each line', and of requests of document 02 are a table in
 // specs/Table.antt. That the definitions which the contracts cite give each of its rows is the contract of a function.
+#![tactic(auto)]
+
 ghost use Rattle.examples.specs.Table.{Examples};
 ghost use Rattle.examples.specs.Records.{RecordExamples};
 

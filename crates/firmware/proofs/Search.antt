@@ -1,7 +1,7 @@
 -- Laws of `all` and `first_from`: how a walk goes on and how it ends. Assumes nothing.
 use Prim.Native.Nat.{ℕ, zero, suc, ◌+◌, ◌-◌, ◌≤◌, ◌<◌}
 use mathlib.Core.Path.{◌≡◌, refl, sym, ap, ◌∙◌}
-use mathlib.Core.Bool.{Bool, true, false, not, cond, and_false}
+use mathlib.Core.Bool.{Bool, true, false, not, cond, and-false}
 use native.Mathlib.Numerals.{add-one}
 use mathlib.Core.Logic.{⊎_elim}
 use native.Mathlib.Nat.{eq-or-lt_of_le}
@@ -22,7 +22,7 @@ all_fails p zero j h q = absurd (omega arith)
 all_fails p (suc n) j h q =
     let le : j ≤ n = omega arith in
     ⊎_elim
-    (λ e. let r : p n ≡ false = rw e at q in rw r (and_false (all p n)))
+    (λ e. let r : p n ≡ false = rw e at q in rw r (and-false (all p n)))
     (λ l. rw (all_fails p n j l q))
     (eq-or-lt_of_le le)
 

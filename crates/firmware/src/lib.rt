@@ -2,6 +2,8 @@
 // locations, answers, versions and parts, each from one judgement of the lent blob. A part is a sub-slice of that blob,
 // and a location (number, start, length) says where it lies. Nothing about a blob is kept, and no function takes an
 // offset back.
+#![tactic(auto)]
+
 mod bytes;
 mod cpd;
 mod css;

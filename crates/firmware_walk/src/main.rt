@@ -1,4 +1,6 @@
 // Walks firmware blobs through what is accepted and what is refused, a few printed lines for each blob.
+#![tactic(auto)]
+
 mod directories;
 mod images;
 mod inside;

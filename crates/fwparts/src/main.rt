@@ -1,5 +1,7 @@
 // For the crew: says of each firmware file whether it is good to load, with the figures behind the verdict, and writes
 // out a part of a good one. A program here has no exit status; the script ./fwparts takes it from the last line.
+#![tactic(auto)]
+
 mod directory;
 mod image;
 mod kinds;

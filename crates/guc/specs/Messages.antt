@@ -1,6 +1,6 @@
 -- Messages for C: numbers in the place of enums, and zeros where a refusal answers nothing.
 use Rattle.std.specs.Prelude.{ℕ, ◌-◌, Bool, true, ◌&&◌, cond, List, [], ◌∷◌, eqb, leb, length}
-use Rattle.std.proofs.Math.Option.{Option, none, some, Option·elim}
+use Rattle.std.proofs.Math.Option.{Option, none, some, Option-elim}
 use Rattle.message.specs.Fields.{Field, bits_of, FieldValue}
 use Rattle.message.specs.Types.{type_of, carried, bodies_from, of_type}
 use Rattle.message.specs.Packing.{Answer, origin_number, origin_of, pack_answer}
@@ -36,13 +36,13 @@ abbrev pub not_packed : ℕ → Packed
 not_packed n = record { code = n; header = 0; word = 0 }
 
 unfoldable pub packed_by : Answer (ℕ × ℕ) → Packed
-packed_by a = Option·elim a.value (not_packed a.number) (λ dwords. record { code = 0; header = dwords.0; word = dwords.1 })
+packed_by a = Option-elim a.value (not_packed a.number) (λ dwords. record { code = 0; header = dwords.0; word = dwords.1 })
 
 -- 101 first, then 14 for an origin that is not one bit and for a number but 0 in a field that the type does not have,
 -- then what packing answers
 unfoldable pub packing : ℕ → ℕ → ℕ → ℕ → ℕ → ℕ → Packed
 packing origin fence num t first second =
-    Option·elim (body_for t first second) (not_packed no_such)
+    Option-elim (body_for t first second) (not_packed no_such)
     (λ b.
     cond (leb origin 1 && spare b second)
     (packed_by (pack_answer (record { origin = origin_of origin; fence = fence; num_dwords = num; body = b })))
@@ -69,6 +69,6 @@ said_by m =
 -- an unpacking
 unfoldable pub unpacked_by : Answer Message → Unpacked
 unpacked_by a =
-    Option·elim a.value
+    Option-elim a.value
     (record { code = a.number; origin = 0; fence = 0; num_dwords = 0; hxg_type = 0; first = 0; second = 0 })
     said_by

@@ -1,7 +1,7 @@
 -- Firmware for C: an answer, a part as its number, start and length, a part copied out, and a version as a struct of
 -- numbers.
 use Rattle.std.specs.Prelude.{ℕ, Bool, cond, List, ◌++◌, eqb, ltb, length, get_or, drop}
-use Rattle.std.proofs.Math.Option.{Option, none, some, Option·elim}
+use Rattle.std.proofs.Math.Option.{Option, none, some, Option-elim}
 use Rattle.firmware.specs.Bytes.{bytes}
 use Rattle.firmware.specs.Css
 use Rattle.firmware.specs.Cpd
@@ -48,10 +48,10 @@ abbrev pub no_part : Part
 no_part = record { code = no_such; truncated = 0; start = 0; len = 0 }
 
 unfoldable pub css_part : ℕ → List ℕ → Part
-css_part n b = Option·elim (component_of n) no_part (λ c. part_by (Css.located c b))
+css_part n b = Option-elim (component_of n) no_part (λ c. part_by (Css.located c b))
 
 unfoldable pub huc_part : ℕ → List ℕ → Part
-huc_part n b = Option·elim (component_of n) no_part (λ c. part_by (huc_located c b))
+huc_part n b = Option-elim (component_of n) no_part (λ c. part_by (huc_located c b))
 
 unfoldable pub cpd_part : List ℕ → List ℕ → Part
 cpd_part b name = part_by (Cpd.located b name)
@@ -77,12 +77,12 @@ copied_by n t part dst =
 
 unfoldable pub css_copy : ℕ → List ℕ → List ℕ → CopiedOut
 css_copy n b dst =
-    Option·elim (component_of n) (not_copied no_such 0 0 dst)
+    Option-elim (component_of n) (not_copied no_such 0 0 dst)
     (λ c. copied_by (Css.number b) (flag (Css.truncated b)) (bytes b (Css.part c b)) dst)
 
 unfoldable pub huc_copy : ℕ → List ℕ → List ℕ → CopiedOut
 huc_copy n b dst =
-    Option·elim (component_of n) (not_copied no_such 0 0 dst)
+    Option-elim (component_of n) (not_copied no_such 0 0 dst)
     (λ c. copied_by (huc_number b) (flag (huc_truncated b)) (bytes b (huc_span c b)) dst)
 
 -- an entry's part is of no image

@@ -1,5 +1,7 @@
 // The C interface: the functions of include/guc.h, each held to the definition that the Rattle function behind it is
 // held to.
+#![tactic(auto)]
+
 ghost use Rattle.std.specs.Prelude.{◌≡◌};
 ghost use Rattle.guc.specs.BothWays.{BothWays};
 ghost use Rattle.guc.specs.Interface.{interface};

@@ -1,6 +1,8 @@
 // T-06's statement about whole lists, that a wall does what a plain map from fences to requests does, with T-08's number
 // in it, is stated in specs/Matching.antt; how such lists are read in demand 3 in specs/Mixed.antt; and what the room that
 // is set aside is good for in specs/Room.antt. Here each is the contract of a function.
+#![tactic(auto)]
+
 ghost use Rattle.matching.specs.Matching.{WallIsMap};
 ghost use Rattle.matching.specs.Mixed.{MixedLists};
 ghost use Rattle.matching.specs.Room.{RoomForReplies};

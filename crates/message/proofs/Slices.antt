@@ -6,7 +6,7 @@ use mathlib.Core.List.{List, ◌++◌, append_assoc}
 use native.Mathlib.Numerals.{add-one}
 use native.Mathlib.Omega.{arith}
 use lib.ListN.{length, get_or, set, take, drop, take-append-drop, length-drop, length-take}
-use lib.Seq.{take_all, take_suc, drop-cons, drop-drop, drop-append-le, append_snoc, set_at, length-take-le}
+use lib.Seq.{take_all, take-suc, drop-cons, drop-drop, drop-append-le, append_snoc, set_at, length-take-le}
 use borrow.Rule.Slice.PartMut.{mid_of, put_mid}
 
 -- a turn of the loop that copies src to the front of dst
@@ -14,7 +14,7 @@ pub copied_more :
     (dst src : List ℕ) (i : ℕ) → i < length src → i < length dst
     → set (take i src ++ drop i dst) i (get_or src i 0) ≡ take (i + 1) src ++ drop (i + 1) dst
 copied_more dst src i h k =
-    rw (add-one, drop-cons dst i 0, take_suc src i 0, append_snoc)
+    rw (add-one, drop-cons dst i 0, take-suc src i 0, append_snoc)
     (set_at (take i src) _ _ _ _ (length-take-le i src (omega arith)))
 
 -- the part from place k to the end

@@ -1,6 +1,6 @@
 -- Packing and unpacking (document 01, 'Messages'), and what each answers by the paper's numbers.
 use Rattle.std.specs.Prelude.{ℕ, ◌&&◌, cond, List, [], ◌∷◌, get_or, eqb, leb}
-use Rattle.std.proofs.Math.Option.{Option, none, some, Option·elim}
+use Rattle.std.proofs.Math.Option.{Option, none, some, Option-elim}
 use Rattle.message.specs.Fields.{fence, format, reserved, num_dwords, origin, field_of, FieldValue, fit, dword}
 use Rattle.message.specs.Types.{body_fields, body_of}
 use Rattle.message.specs.Header.{is_message}
@@ -35,7 +35,7 @@ decoded header word b =
 unfoldable pub unpack : List ℕ → Option Message
 unpack dwords =
     cond (is_message dwords)
-    (Option·elim (body_of (get_or dwords 1 0)) none (λ b. some (decoded (get_or dwords 0 0) (get_or dwords 1 0) b)))
+    (Option-elim (body_of (get_or dwords 1 0)) none (λ b. some (decoded (get_or dwords 0 0) (get_or dwords 1 0) b)))
     none
 
 -- the fields of the header and of the HXG dword 0, with a message's number for each

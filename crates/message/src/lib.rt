@@ -1,4 +1,6 @@
 // CTB headers and HXG words: packing, unpacking, and what is well formed.
+#![tactic(auto)]
+
 mod header;
 mod packing;
 mod unpacking;

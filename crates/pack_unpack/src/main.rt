@@ -1,4 +1,6 @@
 // Prints how messages unpack and how they pack, a few lines each, refused ones among them.
+#![tactic(auto)]
+
 use message::{Body, Message, Origin, Packed, Unpacked, dword_at};
 use say::{four, one, text, two};
 

@@ -6,7 +6,7 @@ use mathlib.Core.List.{List, [], ◌∷◌, ◌++◌, append_assoc, append-nil, 
 use native.Mathlib.Numerals.{add-one}
 use native.Mathlib.Omega.{arith}
 use lib.ListN.{length, get_or, take, drop, length-append, take-append-drop}
-use lib.Seq.{take_suc}
+use lib.Seq.{take-suc}
 use lib.Dec.{leb, ltb}
 use borrow.Author.Tests.{lt-ltb, le-ltb, lt-leb, leb-true, leb-false}
 use Rattle.message.proofs.Tests.{cases}
@@ -125,7 +125,7 @@ pub bytes_more :
     (run : List ℕ) (i : ℕ) → i < length run
     → bytes_of_run (take (i + 1) run) ≡ bytes_of_run (take i run) ++ bytes_of (get_or run i 0)
 bytes_more run i h =
-    rw (add-one, take_suc run i 0 h) (bytes-append (take i run) (get_or run i 0 ∷ []) ∙ ap (λ (r : List ℕ). bytes_of_run (take i run) ++ r) (bytes_one (get_or run i 0)))
+    rw (add-one, take-suc run i 0 h) (bytes-append (take i run) (get_or run i 0 ∷ []) ∙ ap (λ (r : List ℕ). bytes_of_run (take i run) ++ r) (bytes_one (get_or run i 0)))
 
 -- five bytes a dword at most
 pub run-bytes : (run : List ℕ) → length (bytes_of_run run) ≤ 5 * length run

@@ -1,5 +1,7 @@
 // A record of what went over a channel (document 02, T-10): in memory a run of dwords, in a file the same numbers in
 // groups of seven bits. Three calls: add a message to a run, write a run into a file, read a file back.
+#![tactic(auto)]
+
 ghost use Rattle.record.specs.MailedHome.{MailedHome};
 
 mod adding;

@@ -1,5 +1,7 @@
 // Demand 1 as one statement, over the definitions that the contracts of `message`, `channel`, `firmware` and `wall` cite:
 // when each public call refuses, by which number, and what it leaves.
+#![tactic(auto)]
+
 ghost use Rattle.refusals.specs.Refusals.{Demand1};
 ghost use Rattle.refusals.specs.RecordRefusals.{RecordDemand1};
 

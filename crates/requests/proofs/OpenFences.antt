@@ -1,7 +1,7 @@
 -- Laws of open fences in a table: where one stands, one record more, and a fence that is open twice. Assumes nothing.
 use Prim.Native.Nat.{ℕ, ◌≤◌, ◌<◌}
 use mathlib.Core.Path.{◌≡◌, refl, sym, ◌∙◌}
-use mathlib.Core.Bool.{Bool, true, false, ◌&&◌, ◌||◌, and_false, or_assoc, or-true, or-false}
+use mathlib.Core.Bool.{Bool, true, false, ◌&&◌, ◌||◌, and-false, or_assoc, or-true, or-false}
 use mathlib.Core.List.{List, [], ◌∷◌, ◌++◌}
 use native.Mathlib.Omega.{arith}
 use lib.ListN.{length}
@@ -92,7 +92,7 @@ pub twice_more :
     (s : List Record) (r : Record) → fence_twice s ≡ false → (is_open r ≡ true → still_open s r.fence ≡ false)
     → fence_twice (s ++ r ∷ []) ≡ false
 unfolding fence_twice still_open
-twice_more [] r e n = simp (and_false, or-false)
+twice_more [] r e n = simp (and-false, or-false)
 twice_more (x ∷ s) r e n =
     let q = or_none (is_open x && still_open s x.fence) (fence_twice s) e in
     let rest : fence_twice (s ++ r ∷ []) ≡ false =

@@ -1,7 +1,7 @@
 -- What a plan is, by the tests of its table. Assumes nothing.
 use Prim.Native.Nat.{ℕ, ◌+◌, ◌-◌, ◌%◌, ◌≤◌}
 use mathlib.Core.Path.{◌≡◌, refl}
-use mathlib.Core.Bool.{true, false, ◌&&◌, and_false}
+use mathlib.Core.Bool.{true, false, ◌&&◌, and-false}
 use mathlib.Core.List.{List}
 use native.Mathlib.Omega.{arith}
 use lib.ListN.{length, get_or}
@@ -40,7 +40,7 @@ module _ (t : List Record) (last : ℕ) {n : ℕ} (kind fence : ℕ) (s : length
 
   pub reply-other : is_reply kind ≡ false → reply_plan t last kind fence ≡ refused_plan 27 n last
   unfolding reply_plan
-  reply-other k = rw (k, and_false, s)
+  reply-other k = rw (k, and-false, s)
 
   pub reply-there :
       still_open t fence ≡ true → is_reply kind ≡ true
@@ -93,7 +93,7 @@ module _ (t : List Record) (s : State) where
 
     pub plan_twice : fence_twice t ≡ true → plan_of t n s a ≡ refused_plan 35 n s.last
     unfolding plan_of
-    plan_twice e = rw (e, and_false)
+    plan_twice e = rw (e, and-false)
 
     -- of a fit table: 2, what refuses it already, an opening, and a reply
     module _ (e : allowed_length n ≡ true) (f : fence_twice t ≡ false) where

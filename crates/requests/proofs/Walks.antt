@@ -7,7 +7,7 @@ use native.Mathlib.Omega.{arith}
 use native.Mathlib.Numerals.{add-one}
 use native.Mathlib.Nat.{add-zero, sub-zero}
 use lib.ListN.{length, get_or, take, drop, length-map, drop_of_length-le}
-use lib.Seq.{drop-cons, take_suc, split_at, length-take-le}
+use lib.Seq.{drop-cons, take-suc, split_at, length-take-le}
 use Rattle.requests.specs.Table.{is_open, has_fence, still_open, lowest_free, place_of}
 use Rattle.requests.specs.Words.{record_of, records}
 use Rattle.requests.proofs.OpenFences.{within_open, end-closed}
@@ -20,7 +20,7 @@ next words i l = rw (add-one i, drop-cons words i 0)
 -- the first i + 1 words: the first i and one more
 pub more : (words : List ℕ) (i : ℕ) → i < length words
     → records (take (i + 1) words) ≡ records (take i words) ++ record_of (get_or words i 0) ∷ []
-more words i l = rw (add-one i, take_suc words i 0, map-append)
+more words i l = rw (add-one i, take-suc words i 0, map-append)
 
 -- all the words, parted at i
 pub parted : (words : List ℕ) (i : ℕ) → i < length words

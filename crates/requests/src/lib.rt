@@ -1,6 +1,8 @@
 // Replies matched to requests, and room for them (document 02, T-06 and T-08), on values: what a record says, which fence
 // is next, what is set aside, and what a call does to a table that it is not lent: `wall` stores the record and sends the
 // request. The state, two words, is kept here.
+#![tactic(auto)]
+
 mod asking;
 mod fence;
 mod judging;

@@ -1,5 +1,7 @@
 // The ring of one command transport buffer (CTB): its descriptor and its buffer, on plain numbers and slices. What a
 // look decides, and whole calls at once. States and steps stand above it, in `channel`.
+#![tactic(auto)]
+
 mod descriptor;
 mod memory;
 mod numbers;

@@ -7,7 +7,7 @@ use native.Mathlib.Nat.{mod-lt, mod-eq_of_lt, mod-add-mod, add-mod_right, mod-eq
 use native.Mathlib.Decide.{dec_lt}
 use native.Mathlib.Omega.{arith}
 use lib.ListN.{length, get_or, set, take, length-set}
-use lib.Seq.{get_or-set_other, take_suc, length-take-le}
+use lib.Seq.{get_or-set_other, take-suc, length-take-le}
 use Rattle.runs.specs.Buffer.{stored, window}
 
 -- the distance between two offsets that are less than N apart
@@ -116,4 +116,4 @@ pub stored-take :
 stored-take b n i m k h =
     let e : length (take k m) ≡ k = length-take-le k m (omega arith) in
     ap (λ (x : ℕ). set (stored b n i (take k m)) ((i + x) % n) (get_or m k 0)) (sym e) ∙ sym (stored_snoc b n i (take k m) (get_or m k 0))
-    ∙ ap (stored b n i) (sym (take_suc m k 0 h))
+    ∙ ap (stored b n i) (sym (take-suc m k 0 h))

@@ -1,5 +1,7 @@
 // Straight runs of dwords: how a message goes into the buffer of a ring and out of it, in one run or two, and the
 // offset past it. It knows no descriptor, and of a message only that its first two dwords were judged.
+#![tactic(auto)]
+
 ghost use Rattle.runs.specs.TwoRuns.{TwoRuns};
 
 mod offset;

@@ -1,6 +1,8 @@
 // The words that programs print: templates with numbers in them, one sentence for each number that says no, the ring's
 // picture, and the versions and parts of firmware files. Printing answers nothing, so the functions here have no more
 // to promise than that they end and do nothing undefined.
+#![tactic(auto)]
+
 mod answers;
 mod bytes;
 mod names;

@@ -1,5 +1,7 @@
 // What programs build their scenes with: a channel with both its sides, a wall of players, messages to send, outputs to
 // receive in, firmware files laid byte by byte, and comparisons. Each is held to a definition, once, here.
+#![tactic(auto)]
+
 mod channels;
 mod dwords;
 mod files;

@@ -1,5 +1,7 @@
 // For the crew: shows what went over a channel from a record of it, a line a message, with totals. A program here has no
 // exit status; the script ./traffic takes it from the last line.
+#![tactic(auto)]
+
 mod counting;
 mod kinds;
 mod lines;

@@ -1,6 +1,8 @@
 // Sides that make whole calls only, in two words each, which are lent to the call and changed in place: between its
 // calls such a side is idle, so that there is no copy to keep and no zeros to test. Held to the same definitions as the
 // states by value.
+#![tactic(auto)]
+
 ghost use Rattle.std.specs.Prelude.{◌≡◌, [], length};
 ghost use Rattle.channel.specs.State.{idle, idle_at};
 ghost use Rattle.channel.specs.Opening.{opening};

@@ -1,4 +1,6 @@
 // Walks a wall of players through requests and their replies, a printed line for each thing that happens.
+#![tactic(auto)]
+
 mod calls;
 mod scenes;
 mod site;

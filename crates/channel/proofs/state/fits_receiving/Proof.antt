@@ -1,7 +1,7 @@
 -- `state::fits_receiving` meets its contract: at each `return` a test of the definition fails; that L is from 1 to 256
 -- follows from the header. Assumes nothing.
 use mathlib.Core.Path.{◌≡◌, sym, ◌∙◌}
-use mathlib.Core.Bool.{and_true}
+use mathlib.Core.Bool.{and-true}
 use native.Mathlib.Omega.{arith}
 use borrow.Author.Rules.{rules}
 use borrow.Author.Tests.{eq-eqb, le-leb, lt-ltb}
@@ -37,7 +37,7 @@ returns-5 c =
       le-leb a.s.len 256 (omega (arith, total_high a.header)),
       le-leb 1 a.s.moved (omega arith),
       eq-eqb a.s.len (total_length a.header) l,
-      and_true,
+      and-true,
     )
 
 pub fits_receiving_spec : {M : Type 1} → statement M

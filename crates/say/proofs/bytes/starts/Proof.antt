@@ -1,5 +1,5 @@
 -- `bytes::starts` meets its contract: after i turns the two have the same first i bytes. Assumes nothing.
-use Rattle.std.proofs.Common.{◌≡◌, ℕ, ◌+◌, ◌-◌, ◌<◌, ◌≤◌, List, length, get_or, take, sym, refl, ap, ◌∙◌, add-one, arith, take_all, get_or-take, take_suc, rules}
+use Rattle.std.proofs.Common.{◌≡◌, ℕ, ◌+◌, ◌-◌, ◌<◌, ◌≤◌, List, length, get_or, take, sym, refl, ap, ◌∙◌, add-one, arith, take_all, get_or-take, take-suc, rules}
 use mathlib.Core.Bool.{false≢true}
 use lib.Seq.{take-length}
 use Rattle.say.proofs.bytes.starts.Statement.{statement}
@@ -17,7 +17,7 @@ more :
     → take (i + 1) a ≡ take (i + 1) b
 more a b i h k e x =
     ap (λ n. take n a) (add-one i)
-    ∙ (take_suc a i 0 h ∙ (rw (e, x) (sym (ap (λ n. take n b) (add-one i) ∙ take_suc b i 0 k))))
+    ∙ (take-suc a i 0 h ∙ (rw (e, x) (sym (ap (λ n. take n b) (add-one i) ∙ take-suc b i 0 k))))
 
 returns : tie.Need-returns invariant-loop decreases-loop
 returns c =
