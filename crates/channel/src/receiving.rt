@@ -37,7 +37,7 @@ pub struct Received {
 }
 
 // The same where the state is kept elsewhere (`side`, `two_words`).
-#[derive(Drop)]
+#[derive(Clone, Copy)]
 pub struct Laid {
     pub code: u32,
     pub len: usize,

@@ -9,7 +9,7 @@ use message::MESSAGE_MAX;
 use ring::{first_needs, need, refusal};
 
 // The numbers of a state, beside its copy.
-#[derive(Drop)]
+#[derive(Clone, Copy)]
 pub struct Counts {
     pub n: usize,
     pub own: usize,

@@ -19,7 +19,7 @@ pub fn half_whole()
 {}
 
 // What the loopback answers: the numbers of the three calls, and the length of the message that came back.
-#[derive(Drop)]
+#[derive(Clone, Copy)]
 pub struct Looped {
     pub opened: u32,
     pub sent: u32,

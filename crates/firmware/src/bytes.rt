@@ -5,7 +5,7 @@ ghost use Rattle.firmware.specs.Bytes.{word_at, dword_at, span, nowhere, located
 // Where a part lies in the lent blob, all of it from one judgement: 0 with the part's first byte and its length, or the
 // number that refuses it with the empty part at the blob's start. An image that is accepted without its modulus and
 // exponent is truncated.
-#[derive(Drop)]
+#[derive(Clone, Copy)]
 pub struct Located {
     pub code: u32,
     pub truncated: bool,

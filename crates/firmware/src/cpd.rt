@@ -26,7 +26,7 @@ const OFFSET_LIMIT: usize = 0x200_0000;
 const LENGTH_AT: usize = 16;
 
 // What a directory is answered: 0 or the number that refuses it, and how many entries it has.
-#[derive(Drop)]
+#[derive(Clone, Copy)]
 pub struct Directory {
     pub code: u32,
     pub count: usize,
@@ -34,7 +34,7 @@ pub struct Directory {
 
 // A directory judged: 0 or its number, where its entries start and how many they are, and the bytes that the number
 // asks for.
-#[derive(Drop)]
+#[derive(Clone, Copy)]
 pub(crate) struct Table {
     pub code: u32,
     pub start: usize,
@@ -43,7 +43,7 @@ pub(crate) struct Table {
 }
 
 // Where an entry says that its part starts, and how long it is.
-#[derive(Drop)]
+#[derive(Clone, Copy)]
 pub(crate) struct Extent {
     pub start: usize,
     pub len: usize,

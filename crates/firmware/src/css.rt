@@ -26,7 +26,7 @@ const E_AT: usize = 4 * 9;
 pub(crate) const VERSION_AT: usize = 4 * 16;
 
 // The parts of an image beside its header, in their order.
-#[derive(Drop)]
+#[derive(Clone, Copy)]
 pub enum Component {
     Ucode,
     Rsa,
@@ -36,14 +36,14 @@ pub enum Component {
 
 // What an image is answered: 0 or the number that refuses it, and whether it is accepted without its modulus and
 // exponent.
-#[derive(Drop)]
+#[derive(Clone, Copy)]
 pub struct ImageAnswer {
     pub code: u32,
     pub truncated: bool,
 }
 
 // The sizes in an image's header, in dwords.
-#[derive(Drop)]
+#[derive(Clone, Copy)]
 pub struct Sizes {
     pub h: usize,
     pub s: usize,

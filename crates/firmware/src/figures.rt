@@ -10,7 +10,7 @@ use crate::{cpd, css, refusal};
 
 // A number with the bytes that it asks for, those that nothing is left out of, and those that are there, counted from
 // the start of the blob or part judged.
-#[derive(Drop)]
+#[derive(Clone, Copy)]
 pub struct Figures {
     pub code: u32,
     pub needed: usize,

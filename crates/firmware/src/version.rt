@@ -20,14 +20,14 @@ const BUILD_AT: usize = 42;
 pub(crate) const MANIFEST_MIN: usize = 44;
 
 // The version of a CSS image, or the number that refuses it.
-#[derive(Drop)]
+#[derive(Clone, Copy)]
 pub enum Version {
     Known { major: u8, minor: u8, patch: u8 },
     Refused(u32),
 }
 
 // The firmware version in a manifest, or the number that refuses it.
-#[derive(Drop)]
+#[derive(Clone, Copy)]
 pub enum ManifestVersion {
     Known {
         major: u16,

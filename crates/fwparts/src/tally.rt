@@ -1,7 +1,7 @@
 // How many files of each class there were, and the last line that says so.
 use crate::verdicts;
 
-#[derive(Drop)]
+#[derive(Clone, Copy)]
 pub(crate) struct Tally {
     pub good: u64,
     pub not_good: u64,

@@ -11,7 +11,7 @@ use side::STATE_WORDS;
 
 // What a receive answers: the number, and the length L of the message laid.
 #[repr(C)]
-#[derive(Drop)]
+#[derive(Clone, Copy)]
 pub struct Received {
     pub code: u32,
     pub len: usize,

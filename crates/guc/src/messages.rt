@@ -10,7 +10,7 @@ use ring::refusal::BAD_MESSAGE;
 
 // 0 and the two dwords, or the number that refuses it.
 #[repr(C)]
-#[derive(Drop)]
+#[derive(Clone, Copy)]
 pub struct Packed {
     pub code: u32,
     pub header: u32,
@@ -19,7 +19,7 @@ pub struct Packed {
 
 // 0 and what a message says, or the number that refuses it.
 #[repr(C)]
-#[derive(Drop)]
+#[derive(Clone, Copy)]
 pub struct Unpacked {
     pub code: u32,
     pub origin: u32,
@@ -31,7 +31,7 @@ pub struct Unpacked {
 }
 
 // The body that a type's number and two fields make.
-#[derive(Drop)]
+#[derive(Clone, Copy)]
 pub(crate) enum Typed {
     Unknown,
     Known(Body),

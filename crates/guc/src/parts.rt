@@ -21,7 +21,7 @@ const PART_EXPONENT: u32 = 3;
 
 // 0 or the number that refuses an image, and whether it is truncated, 0 or 1.
 #[repr(C)]
-#[derive(Drop)]
+#[derive(Clone, Copy)]
 pub struct Image {
     pub code: u32,
     pub truncated: u32,
@@ -30,7 +30,7 @@ pub struct Image {
 // 0 and where a part lies in the lent blob, with whether its image is truncated, 0 or 1; or the number that refuses it
 // with zeros.
 #[repr(C)]
-#[derive(Drop)]
+#[derive(Clone, Copy)]
 pub struct Part {
     pub code: u32,
     pub truncated: u32,
@@ -41,14 +41,14 @@ pub struct Part {
 // 0 and the bytes copied, with whether the part's image is truncated, or the number that refuses it; 100 with the bytes
 // that are needed.
 #[repr(C)]
-#[derive(Drop)]
+#[derive(Clone, Copy)]
 pub struct Copied {
     pub code: u32,
     pub truncated: u32,
     pub len: usize,
 }
 
-#[derive(Drop)]
+#[derive(Clone, Copy)]
 pub(crate) enum Which {
     None,
     One(Component),

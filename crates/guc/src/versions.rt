@@ -6,7 +6,7 @@ ghost use Rattle.guc.specs.Parts.{version_by, manifest_by};
 use firmware::ManifestVersion;
 
 #[repr(C)]
-#[derive(Drop)]
+#[derive(Clone, Copy)]
 pub struct Version {
     pub code: u32,
     pub major: u32,
@@ -15,7 +15,7 @@ pub struct Version {
 }
 
 #[repr(C)]
-#[derive(Drop)]
+#[derive(Clone, Copy)]
 pub struct Manifest {
     pub code: u32,
     pub major: u32,

@@ -14,14 +14,14 @@ pub use packing::pack;
 pub use unpacking::unpack;
 
 // Who sent a message: bit 31 of HXG dword 0.
-#[derive(Drop)]
+#[derive(Clone, Copy)]
 pub enum Origin {
     Host,
     Guc,
 }
 
 // What HXG dword 0 carries beside origin and type, by its type.
-#[derive(Drop)]
+#[derive(Clone, Copy)]
 pub enum Body {
     Request { data: u32, action: u32 },
     Event { data: u32, action: u32 },
@@ -34,7 +34,7 @@ pub enum Body {
 
 // A decoded message: what its first two dwords say. Every number is a u32, so that each can be too wide
 // for its place and be refused.
-#[derive(Drop)]
+#[derive(Clone, Copy)]
 pub struct Message {
     pub origin: Origin,
     pub fence: u32,
@@ -43,14 +43,14 @@ pub struct Message {
 }
 
 // What unpacking answers: refused by 4, or the decoded message.
-#[derive(Drop)]
+#[derive(Clone, Copy)]
 pub enum Unpacked {
     Malformed,
     Decoded(Message),
 }
 
 // What packing answers: refused by 14, or the header and the HXG dword 0.
-#[derive(Drop)]
+#[derive(Clone, Copy)]
 pub enum Packed {
     Unfit,
     Dwords(u32, u32),

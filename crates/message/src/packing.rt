@@ -7,7 +7,7 @@ ghost use Rattle.message.specs.Packing.{origin_number, pack_answer, of_packed};
 use crate::{Body, Message, Origin, Packed, header};
 
 // The fields of a body at their bits, or that one is too wide.
-#[derive(Drop)]
+#[derive(Clone, Copy)]
 enum BodyBits {
     TooWide,
     Bits(u32),

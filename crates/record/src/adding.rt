@@ -8,7 +8,7 @@ use message::dword_at;
 
 // What adding answers: 0, 29 or 30; at 29 what is wrong; the place for the next message.
 #[repr(C)]
-#[derive(Drop)]
+#[derive(Clone, Copy)]
 pub struct Added {
     pub code: u32,
     pub fault: u32,

@@ -10,7 +10,7 @@ use crate::refusal::{BAD_DIRECTION, BAD_HEADER, BAD_LENGTH};
 use message::total_length;
 
 // What is wrong first in a message of a file, and at which of its bytes; or 0, its dwords in a run, and its bytes.
-#[derive(Drop)]
+#[derive(Clone, Copy)]
 pub struct Found {
     pub fault: u32,
     pub bad: usize,
@@ -47,7 +47,7 @@ fn later(size: usize, r: Found) -> Found
 }
 
 // How far some bytes are numbers, and what is wrong behind them, or 0 where there are enough.
-#[derive(Drop)]
+#[derive(Clone, Copy)]
 pub struct Body {
     pub fault: u32,
     pub size: usize,

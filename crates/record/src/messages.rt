@@ -19,7 +19,7 @@ pub(crate) const ENTRY_MAX: usize = 258;
 pub const MESSAGE_BYTES_MAX: usize = 1283;
 
 // What is wrong first in a message, and its place; or 0 and how many dwords it takes.
-#[derive(Drop)]
+#[derive(Clone, Copy)]
 pub struct Judged {
     pub fault: u32,
     pub place: usize,

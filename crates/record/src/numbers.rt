@@ -13,7 +13,7 @@ const FOLLOWED: u32 = 128;
 const LAST: u32 = 0;
 
 // What bytes start with: what is wrong there, or 0 with a number and the bytes that it takes.
-#[derive(Drop)]
+#[derive(Clone, Copy)]
 pub struct Form {
     pub fault: u32,
     pub value: u32,

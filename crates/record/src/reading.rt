@@ -12,7 +12,7 @@ use crate::refusal::{BAD_RECORD, SHORT_ROOM};
 // What reading answers: 0, 29 or 30; at 29 what is wrong, and the byte where the bad number starts; the dwords that were
 // laid, and the bytes of the file that these messages took.
 #[repr(C)]
-#[derive(Drop)]
+#[derive(Clone, Copy)]
 pub struct ReadBack {
     pub code: u32,
     pub fault: u32,

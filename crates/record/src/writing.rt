@@ -12,7 +12,7 @@ use crate::refusal::{BAD_RECORD, SHORT_ROOM};
 // What writing answers: 0, 29 or 30; at 29 what is wrong, and the place in the run of that message's direction; the
 // bytes that were written.
 #[repr(C)]
-#[derive(Drop)]
+#[derive(Clone, Copy)]
 pub struct Written {
     pub code: u32,
     pub fault: u32,
@@ -21,7 +21,7 @@ pub struct Written {
 }
 
 // What is wrong with a run, or 0; the dwords of its whole messages, and the bytes that these take.
-#[derive(Drop)]
+#[derive(Clone, Copy)]
 pub struct Measured {
     pub fault: u32,
     pub dwords: usize,
@@ -55,7 +55,7 @@ fn measure(run: &[u32]) -> Measured
 }
 
 // How much of a run was written: whole messages from its front.
-#[derive(Drop)]
+#[derive(Clone, Copy)]
 pub struct Put {
     pub fault: u32,
     pub dwords: usize,

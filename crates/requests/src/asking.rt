@@ -16,7 +16,7 @@ use message::{Body, Message, Unpacked, dword_at};
 use ring::refusal::BAD_MESSAGE;
 
 // What is heard of a message: 0 with its HXG type and its fence, or the number that refuses it.
-#[derive(Drop)]
+#[derive(Clone, Copy)]
 pub struct Heard {
     pub(crate) code: u32,
     pub(crate) kind: u32,
@@ -25,7 +25,7 @@ pub struct Heard {
 
 // An opening, or a reply: 0, or the number that refuses it already. A reply has its type and its fence; an opening what is
 // set aside for it, and the first two dwords of its message, as they were read.
-#[derive(Drop)]
+#[derive(Clone, Copy)]
 pub struct Ask {
     pub(crate) opening: bool,
     pub(crate) code: u32,

@@ -16,7 +16,7 @@ use ring::need;
 // What a call answers: a number, then an opening's fence, or a reply's kind with the request's action and count. What a
 // call has no part in is 0, and on a refusal all but the number is.
 #[repr(C)]
-#[derive(Drop)]
+#[derive(Clone, Copy)]
 pub struct Answer {
     pub code: u32,
     pub kind: u32,
@@ -27,7 +27,7 @@ pub struct Answer {
 
 // What a call does: its answer, the record that is stored at a place (the table's length for nothing), and the last fence
 // before it and after it.
-#[derive(Drop)]
+#[derive(Clone, Copy)]
 pub struct Plan {
     pub at: usize,
     pub stored: Record,

@@ -19,7 +19,7 @@ pub(crate) fn allowed(n: usize) -> bool
 // A request, or a free record: 0 in `is_open` is free, any other number open. `count` is how often it was answered busy,
 // `room` how many reply dwords are set aside for it.
 #[repr(C)]
-#[derive(Drop)]
+#[derive(Clone, Copy)]
 pub struct Record {
     pub is_open: u16,
     pub fence: u16,

@@ -14,7 +14,7 @@ const LAST: usize = 0;
 
 const N: usize = 1;
 
-#[derive(Drop)]
+#[derive(Clone, Copy)]
 pub struct State {
     pub last: u16,
     pub n: u16,

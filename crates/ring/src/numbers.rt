@@ -96,7 +96,7 @@ pub(crate) fn send_look_needs(
 }
 
 // What the descriptor says to a receive's look: the number but for 9, and where that is 0 the dwords in use.
-#[derive(Drop)]
+#[derive(Clone, Copy)]
 pub(crate) struct InUse {
     pub code: u32,
     pub used: usize,

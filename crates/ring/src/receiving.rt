@@ -17,7 +17,7 @@ use runs::{lay_message, past};
 // What a look answers: the number, and where that is 0 the message's length L and the header that it judged. (The
 // length stands between them so that each is a register of its own: two dwords would go as one number, to be taken
 // apart again.)
-#[derive(Drop)]
+#[derive(Clone, Copy)]
 pub struct JudgedHeader {
     pub code: u32,
     pub len: usize,

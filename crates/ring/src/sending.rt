@@ -13,7 +13,7 @@ use message::dword_at;
 use runs::store_message;
 
 // What a whole call answers: the number, L, and the own offset afterwards.
-#[derive(Drop)]
+#[derive(Clone, Copy)]
 pub struct WholeEnd {
     pub code: u32,
     pub len: usize,

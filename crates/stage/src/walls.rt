@@ -111,7 +111,7 @@ pub fn wall_send(
 }
 
 // The age of a fence as a person reads it: so much older than the newest, or newer.
-#[derive(Drop)]
+#[derive(Clone, Copy)]
 pub struct Aged {
     pub older: bool,
     pub by: u32,

@@ -32,7 +32,7 @@ const UNKNOWN_TYPE: u32 = 3;
 
 // `first` is an action, a counter, a reason, an error or data; `second` the data beside an action, the hint beside an
 // error. Of a malformed message `first` is what is wrong.
-#[derive(Drop)]
+#[derive(Clone, Copy)]
 pub(crate) struct Meaning {
     pub kind: u32,
     pub fence: u32,

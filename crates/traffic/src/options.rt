@@ -3,7 +3,7 @@ use crate::kinds;
 use crate::kinds::Meaning;
 
 // Which messages are shown: those with this fence and of this type. NO_NUMBER and NO_KIND let all through.
-#[derive(Drop)]
+#[derive(Clone, Copy)]
 pub(crate) struct Filter {
     pub fence: u32,
     pub kind: u32,
@@ -18,7 +18,7 @@ impl Filter {
 }
 
 // What is asked. `at` is the argument behind the options, and `ended` whether `--` stands before it.
-#[derive(Drop)]
+#[derive(Clone, Copy)]
 pub(crate) struct Options {
     pub at: usize,
     pub ended: bool,

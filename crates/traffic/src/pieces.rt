@@ -9,7 +9,7 @@ pub(crate) fn room() -> [u32; 65536] {
 // How far a file is read. `front` is the byte of the file that a piece starts with, and `kept` how many bytes of it are
 // there already; `written` is how many dwords of whole messages were laid. Once it is `done`, either all was read, or
 // `error` is the system's number, or `fault` what is wrong with the byte `bad`.
-#[derive(Drop)]
+#[derive(Clone, Copy)]
 pub(crate) struct Place {
     pub front: u64,
     pub kept: usize,
@@ -34,7 +34,7 @@ pub(crate) fn start() -> Place {
 }
 
 // A piece that was filled: its bytes, whether the file ends with them, and the system's number where it cannot be read.
-#[derive(Drop)]
+#[derive(Clone, Copy)]
 pub(crate) struct Filled {
     pub n: usize,
     pub ended: bool,

@@ -54,7 +54,7 @@ pub(crate) fn print(t: Totals) {
 }
 
 // The files by how they ended.
-#[derive(Drop)]
+#[derive(Clone, Copy)]
 pub(crate) struct Tally {
     pub whole: u64,
     pub damaged: u64,

@@ -21,7 +21,7 @@ const N: usize = 0;
 const OWN: usize = 1;
 
 // Such a side's numbers: the N that it was made for, and its own offset.
-#[derive(Drop)]
+#[derive(Clone, Copy)]
 pub(crate) struct Numbers {
     pub n: usize,
     pub own: usize,
