@@ -5,7 +5,6 @@ use mathlib.Core.Path.{◌≡◌, refl, sym, ◌∙◌}
 use mathlib.Core.Bool.{Bool, true, false, ◌&&◌, cond}
 use native.Mathlib.Omega.{arith}
 use lib.Dec.{ltb, leb}
-use borrow.Author.Rules.{rules}
 use borrow.Author.Tests.{ltb-true}
 use Rattle.message.specs.Fields.{fit, dword}
 use Rattle.message.specs.Types.{body_fields}
@@ -14,8 +13,7 @@ use Rattle.message.specs.declared.packing.BodyBits.TheVariants.{TooWide, Bits}
 use Rattle.message.proofs.Tests.{and_l, and_r, and_false}
 use Rattle.message.proofs.Tiling.{dword_lt}
 use Rattle.message.proofs.PackLaws.{pack_is, body_tiles, origin-fits}
-use Rattle.message.proofs.packing.pack.Statement.{statement}
-use Rattle.message.proofs.packing.pack.Tie as tie
+use Rattle.message.proofs.packing.pack.Goals as goal
 
 -- what the body's answer says: its fields fit, and their dword; or one is too wide
 placed_fit : (t : Bool) (n x : ℕ) → cond t (Bits n) TooWide ≡ Bits x → t ≡ true
@@ -38,56 +36,41 @@ module _ (n f : ℕ) (t : ((leb 1 n && ltb n 256) && ltb f 65536) ≡ true) wher
   header-fence : f < 65536
   header-fence = ltb-true f 65536 (and_r (leb 1 n && ltb n 256) (ltb f 65536) t)
 
-returns : tie.Need-returns
+pub returns-in_default : goal.returns-in_default
 unfolding refusing of_packed
-returns c =
-    let b = body_fields c.before.before.before.args.m.body in
-    let w = placed_wide (fit b) (dword b) (sym c.before.before.body-bits.ensures ∙ c.enum_told.given.1) in
+returns-in_default c =
+    let b = body_fields c.args.m.body in
+    let w = placed_wide (fit b) (dword b) (sym c.body_bits.ensures ∙ c.in_default.is) in
     simp (pack_is, w, and_false)
 
-mul-t13 : tie.Need-overflow-mul-t13
-mul-t13 c =
-    let m = c.before.before.before.before.before.args.m in
-    omega (arith, header-fence m.num_dwords m.fence c.if1.true)
+pub overflow_mul-result : goal.overflow_mul-result
+overflow_mul-result c =
+    let m = c.args.m in
+    omega (arith, header-fence m.num_dwords m.fence c.if-n-fence.true)
 
-add-t14 : tie.Need-overflow-add-t14
-add-t14 c =
-    let m = c.before.before.before.before.before.args.m in
+pub overflow_add-result : goal.overflow_add-result
+overflow_add-result c =
+    let m = c.args.m in
     let n = m.num_dwords in
-    omega (arith, header-n n m.fence c.if1.true, header-fence n m.fence c.if1.true)
+    omega (arith, header-n n m.fence c.if-n-fence.true, header-fence n m.fence c.if-n-fence.true)
 
-add-t16 : tie.Need-overflow-add-t16
-add-t16 c =
-    let placed = c.before.before.before in
-    let m = placed.before.before.before.args.m in
+pub overflow_add-result-then-n-fence : goal.overflow_add-result-then-n-fence
+overflow_add-result-then-n-fence c =
+    let placed = c in
+    let m = placed.args.m in
     let b = body_fields m.body in
-    let e = sym placed.before.before.body-bits.ensures ∙ placed.bits.given.1 in
+    let e = sym placed.body_bits.ensures ∙ placed.in-Bits.is in
     let l = dword_lt 31 b (body_tiles m.body) (placed_fit (fit b) (dword b) _ e) in
     omega (arith, placed_bits (fit b) (dword b) _ e, ltb-true (origin_number m.origin) 2 (origin-fits m.origin))
 
-returns-2 : tie.Need-returns-2
+pub returns-then-n-fence : goal.returns-then-n-fence
 unfolding refusing of_packed
-returns-2 c =
-    let placed = c.before.before.before in
-    let b = body_fields placed.before.before.before.args.m.body in
-    let e = sym placed.before.before.body-bits.ensures ∙ placed.bits.given.1 in
-    simp (pack_is, c.before.if1.true, placed_fit (fit b) (dword b) _ e, placed_bits (fit b) (dword b) _ e, c.origin_bit.ensures)
+returns-then-n-fence c =
+    let placed = c in
+    let b = body_fields placed.args.m.body in
+    let e = sym placed.body_bits.ensures ∙ placed.in-Bits.is in
+    simp (pack_is, c.if-n-fence.true, placed_fit (fit b) (dword b) _ e, placed_bits (fit b) (dword b) _ e, c.origin_bit.ensures)
 
-returns-3 : tie.Need-returns-3
+pub returns : goal.returns
 unfolding refusing of_packed
-returns-3 c = simp (pack_is, c.if1.false)
-
-pub pack_spec : {M : Type 1} → statement M
-pack_spec =
-    tie.close
-    (tie.spec
-    (λ c κs. search rules)
-    (λ c. search rules)
-    (λ c. search rules)
-    returns
-    mul-t13
-    add-t14
-    (λ c κs. search rules)
-    add-t16
-    returns-2
-    returns-3)
+returns c = simp (pack_is, c.if-n-fence.false)
