@@ -1,10 +1,10 @@
 -- The figures beside a number: what each path of the code answers is what the definitions say. Assumes nothing.
-use Prim.Native.Nat.{ℕ, suc, ◌+◌, ◌-◌, ◌*◌, ◌≤◌, ◌<◌}
+use Prim.Native.Nat.{ℕ, ◌+◌, ◌*◌, ◌≤◌, ◌<◌}
 use mathlib.Core.Path.{◌≡◌, refl, sym, ap, subst, ◌∙◌}
-use mathlib.Core.Bool.{Bool, true, false, not, ◌&&◌, cond}
+use mathlib.Core.Bool.{Bool, true, false, ◌&&◌, cond}
 use mathlib.Core.List.{List, [], ◌∷◌}
 use native.Mathlib.Omega.{arith}
-use lib.ListN.{length, get_or}
+use lib.ListN.{length}
 use lib.Dec.{eqb, leb, ltb}
 use borrow.Author.Tests.{eq-eqb, ne_eqb, eqb-true, ltb-true, ltb-false, lt-ltb, le-ltb, le-leb, lt-leb}
 use Rattle.firmware.specs.Bytes.{span, bytes}
@@ -18,7 +18,7 @@ use Rattle.firmware.specs.Private.{table_of}
 use Rattle.firmware.specs.declared.bytes.Located.{Located}
 use Rattle.firmware.specs.declared.css.Sizes.{Sizes}
 use Rattle.firmware.specs.declared.cpd.Table.{Table}
-use Rattle.firmware.proofs.Lies.{cpd_lies, located-code, located-ends, located-span, length-bytes}
+use Rattle.firmware.proofs.Lies.{cpd_lies, located-code, length-bytes}
 use Rattle.firmware.proofs.Read.{table-code, table-start, table-count}
 use Rattle.firmware.proofs.Inner.{found-bytes}
 use Rattle.firmware.proofs.Tests.{cases}

@@ -1,10 +1,9 @@
 -- Bytes needed and bytes there beside a number (ours, for what a crew is told; document 02's T-04 asks for them: 'with
 -- bytes needed and there, counted from the start of the blob or part judged, for 15, 17, 19 and 21').
 use Rattle.std.specs.Prelude.{ℕ, ◌+◌, ◌-◌, ◌*◌, cond, List, length, eqb, leb, ltb}
-use Rattle.firmware.specs.Bytes.{then}
 use Rattle.firmware.specs.Css
 use Rattle.firmware.specs.Cpd
-use Rattle.firmware.specs.Inside.{manifest_name, huc_name, part_named, huc_blob, manifest_number, huc_number}
+use Rattle.firmware.specs.Inside.{manifest_name, huc_name, part_named, huc_blob, manifest_number}
 use Rattle.firmware.specs.declared.css.Sizes.{Sizes}
 use Rattle.firmware.specs.declared.figures.Figures.{Figures}
 

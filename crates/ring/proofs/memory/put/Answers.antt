@@ -1,0 +1,8 @@
+-- `memory::put` meets its contract: past the end `set` changes nothing either. Assumes nothing.
+use mathlib.Core.Path.{sym}
+use borrow.Author.Rules.{rules}
+use lib.Seq.{set_out}
+use Rattle.ring.proofs.memory.put.Goals as goal
+
+pub returns-else-i-s : goal.returns-else-i-s
+returns-else-i-s c = sym (set_out _ _ _ c.if-i-s.false)
