@@ -1,5 +1,4 @@
 -- `memory::mark` meets its contract: the three tests are those of `marked`, in its order. Assumes nothing.
-use borrow.Author.Rules.{rules}
 use borrow.Author.Tests.{ne_eqb}
 use Rattle.ring.specs.Numbers.{marked}
 use Rattle.ring.proofs.memory.mark.Goals as goal

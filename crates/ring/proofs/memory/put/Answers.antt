@@ -1,6 +1,5 @@
 -- `memory::put` meets its contract: past the end `set` changes nothing either. Assumes nothing.
 use mathlib.Core.Path.{sym}
-use borrow.Author.Rules.{rules}
 use lib.Seq.{set_out}
 use Rattle.ring.proofs.memory.put.Goals as goal
 

@@ -1,6 +1,5 @@
 -- `numbers::first_needs` meets its contract: at each `return` the tests that led there say which number it is. Assumes
 -- nothing.
-use borrow.Author.Rules.{rules}
 use borrow.Author.Tests.{eq-eqb, ne_eqb, not-true, not-false}
 use Rattle.ring.specs.Numbers.{need, first_needs}
 use Rattle.ring.proofs.numbers.first_needs.Goals as goal

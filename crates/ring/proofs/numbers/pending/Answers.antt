@@ -1,7 +1,6 @@
 -- `numbers::pending` meets its contract: past 6, 7 and 8 the offsets are below N, and what is in use decides. Assumes
 -- nothing.
 use mathlib.Core.Path.{sym, ◌∙◌}
-use borrow.Author.Rules.{rules}
 use borrow.Author.Tests.{eq-eqb, ne_eqb}
 use Rattle.ring.specs.Numbers.{need}
 use Rattle.ring.specs.Private.{pending_number}

@@ -1,6 +1,5 @@
 -- `numbers::used` meets its contract: the remainder is taken by a test. Assumes nothing.
 use mathlib.Core.Path.{sym}
-use borrow.Author.Rules.{rules}
 use Rattle.ring.proofs.LookNeeds.{used_up, used_round}
 use Rattle.ring.proofs.numbers.used.Goals as goal
 

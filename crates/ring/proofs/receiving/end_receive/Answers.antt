@@ -1,6 +1,5 @@
 -- `receiving::end_receive` meets its contract: 0 and 13 publish, and any other number marks. Assumes nothing.
 use native.Mathlib.Omega.{arith}
-use borrow.Author.Rules.{rules}
 use Rattle.ring.proofs.receiving.end_receive.Goals as goal
 
 pub overflow_cast-end : goal.overflow_cast-end

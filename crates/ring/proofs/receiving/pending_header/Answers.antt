@@ -2,7 +2,6 @@
 -- that a message is pending. Assumes nothing.
 use mathlib.Core.Path.{◌≡◌, sym, ap, ◌∙◌}
 use lib.ListN.{length, get_or}
-use borrow.Author.Rules.{rules}
 use borrow.Author.Tests.{ne_eqb}
 use Rattle.ring.specs.Private.{pending_by, pending_number}
 use Rattle.ring.specs.Ring.{head, status, tail, used}
@@ -19,15 +18,13 @@ said :
     let n = length a.buf.now in
     q.pending-p.result ≡ pending_by (pending_number n a.own (status d) (head d) (tail d)) n (head d) (tail d)
 said q =
-    let second = q in
-    let first = second in
     rw (
       q.wide-tail.ensures,
       q.dword_at-3.ensures,
-      second.wide-head.ensures,
-      second.dword_at-2.ensures,
-      first.wide-status.ensures,
-      first.dword_at.ensures,
+      q.wide-head.ensures,
+      q.dword_at-2.ensures,
+      q.wide-status.ensures,
+      q.dword_at.ensures,
     ) at q.pending-p.ensures
 
 -- past the descriptor's words: they ask for no number, and say what is in use
@@ -35,15 +32,20 @@ passed :
     (f : Else-code-ne0) →
     let a = f.args in
     let d = a.desc.now in
-    pending_number (length a.buf.now) a.own (status d) (head d) (tail d) ≡ 0
-passed f = sym (ap (λ (x : InUse). x.code) (said f)) ∙ f.if-code-ne0.false
+    let n = length a.buf.now in
+    let c = pending_number n a.own (status d) (head d) (tail d) in
+    f.pending-p.result ≡ pending_by c n (head d) (tail d)
+    → c ≡ 0
+passed f said = sym (ap (λ (x : InUse). x.code) said) ∙ f.if-code-ne0.false
 
 in_use :
     (f : Else-code-ne0) →
     let a = f.args in
     let d = a.desc.now in
-    f.pending-p.result.used ≡ used (length a.buf.now) (head d) (tail d)
-in_use f = rw (passed f) at (ap (λ (x : InUse). x.used) (said f))
+    let n = length a.buf.now in
+    f.pending-p.result ≡ pending_by (pending_number n a.own (status d) (head d) (tail d)) n (head d) (tail d)
+    → f.pending-p.result.used ≡ used n (head d) (tail d)
+in_use f said = rw (passed f said) at (ap (λ (x : InUse). x.used) said)
 
 pub returns-then-code-ne0 : goal.returns-then-code-ne0
 returns-then-code-ne0 c =
@@ -57,8 +59,8 @@ returns-then-p-len c =
     let d = a.desc.now in
     let b = a.buf.now in
     let len = c in
-    rw (torn (length b) a.own (status d) (head d) (tail d) (get_or b a.own 0) (passed (goal.at.returns-then-p-len f).Else-code-ne0)
-    (rw (sym (in_use (goal.at.returns-then-p-len f).Else-code-ne0), ← len.dword_at-header.ensures, ← len.total_length-len.ensures) c.if-p-len.true))
+    rw (torn (length b) a.own (status d) (head d) (tail d) (get_or b a.own 0) (passed (goal.at.returns-then-p-len c).Else-code-ne0 (said (goal.at.returns-then-p-len c).After-pending-p))
+    (rw (sym (in_use (goal.at.returns-then-p-len c).Else-code-ne0 (said (goal.at.returns-then-p-len c).After-pending-p)), ← len.dword_at-header.ensures, ← len.total_length-len.ensures) c.if-p-len.true))
 
 pub returns : goal.returns
 returns c =
@@ -68,6 +70,6 @@ returns c =
     let b = a.buf.now in
     let len = c in
     let e =
-    whole (length b) a.own (status d) (head d) (tail d) (get_or b a.own 0) (passed (goal.at.returns f).Else-code-ne0)
-    (rw (sym (in_use (goal.at.returns f).Else-code-ne0), ← len.dword_at-header.ensures, ← len.total_length-len.ensures) c.if-p-len.false) in
+    whole (length b) a.own (status d) (head d) (tail d) (get_or b a.own 0) (passed (goal.at.returns c).Else-code-ne0 (said (goal.at.returns c).After-pending-p))
+    (rw (sym (in_use (goal.at.returns c).Else-code-ne0 (said (goal.at.returns c).After-pending-p)), ← len.dword_at-header.ensures, ← len.total_length-len.ensures) c.if-p-len.false) in
     rw (e, len.total_length-len.ensures, len.dword_at-header.ensures)

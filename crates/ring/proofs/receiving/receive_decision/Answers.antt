@@ -3,7 +3,6 @@
 use mathlib.Core.Path.{refl, sym, ◌∙◌}
 use mathlib.Core.Bool.{true}
 use lib.ListN.{length, get_or}
-use borrow.Author.Rules.{rules}
 use borrow.Author.Tests.{ne_eqb}
 use Rattle.ring.specs.Numbers.{header_number, need, receive_decision}
 use Rattle.ring.proofs.Chains.{first-needs-none, first-needs-one}

@@ -2,7 +2,6 @@
 use mathlib.Core.Path.{sym, ◌∙◌}
 use native.Mathlib.Omega.{arith}
 use lib.ListN.{length, get_or-eq_default}
-use borrow.Author.Rules.{rules}
 use Rattle.runs.specs.Buffer.{window}
 use Rattle.runs.proofs.Offsets.{past_is}
 use Rattle.runs.proofs.Ring.{window-at, window-length}

@@ -1,7 +1,6 @@
 -- `receiving::take_decision` meets its contract: 1, 2, 3 and 5 are judged first, and past them the descriptor and the
 -- header decide. Assumes nothing.
 use mathlib.Core.Path.{refl, sym, ◌∙◌}
-use borrow.Author.Rules.{rules}
 use borrow.Author.Tests.{ne_eqb}
 use Rattle.ring.specs.Numbers.{take_decision}
 use Rattle.ring.proofs.Chains.{first-needs-none, first-needs-one}

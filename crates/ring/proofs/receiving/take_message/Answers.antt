@@ -4,7 +4,6 @@ use Prim.Native.Nat.{ℕ, ◌≤◌}
 use mathlib.Core.Path.{◌≡◌, sym, ap, ◌∙◌}
 use native.Mathlib.Omega.{arith}
 use lib.ListN.{length, get_or}
-use borrow.Author.Rules.{rules}
 use Rattle.message.specs.Header.{total_length}
 use Rattle.message.proofs.Formed.{well_formed_fact}
 use Rattle.ring.specs.Numbers.{take_decision}
@@ -15,8 +14,8 @@ use Rattle.ring.proofs.Taken.{Taken, laid-message, taken-formed, taken_has, take
 use Rattle.ring.proofs.receiving.take_message.Goals as goal
 use Rattle.ring.proofs.receiving.take_message.Goals.{Else-code-ne0, Then-well_formed}
 
-abbrev first : tie.Else1 → ℕ
-first c = let a = (start c).args in get_or a.buf.now a.own 0
+abbrev first : Else-code-ne0 → ℕ
+first c = get_or c.args.buf.now c.args.own 0
 
 -- what an accepted look has, and that the header is the message's
 zero :
@@ -37,11 +36,10 @@ has :
     Taken a.fits a.own (length a.out.now) a.desc.now (length a.buf.now) (first c)
 has c = taken_has _ _ _ _ _ _ (zero c)
 
-long : (c : Then-well_formed) → 2 ≤ c.take_decision-judged.result.len
-long c =
-    let looked = c in
+long : (c : Then-well_formed) (e : c.take_decision-judged.result.header ≡ get_or c.args.buf.now c.args.own 0) (l : c.take_decision-judged.result.len ≡ total_length (get_or c.args.buf.now c.args.own 0)) → 2 ≤ c.take_decision-judged.result.len
+long c e l =
     let w = well_formed_fact _ _ (sym c.well_formed-2.ensures ∙ c.if-well_formed.true) in
-    omega (arith, w.low, header_is looked, len_is looked)
+    omega (arith, w.low, e, l)
 
 pub returns-then-code-ne0 : goal.returns-then-code-ne0
 returns-then-code-ne0 c =
@@ -66,10 +64,11 @@ returns-then-well_formed c =
     let b = a.buf.now in
     let o = a.out.now in
     let h = has (goal.at.returns-then-well_formed looked).Else-code-ne0 in
-    let m = laid-message b (length b) a.own _ _ _ o h.below (long (goal.at.returns-then-well_formed formed).Then-well_formed) eh es in
+    let two = long (goal.at.returns-then-well_formed formed).Then-well_formed eh (len_is (goal.at.returns-then-well_formed looked).Else-code-ne0) in
+    let m = laid-message b (length b) a.own _ _ _ o h.below two eh es in
     let l = c.lay_message-head.ensures in
     let q =
-    laid-there-from b a.own _ _ _ o h.below (long (goal.at.returns-then-well_formed formed).Then-well_formed) (omega (arith, h.short, el, eh)) h.enters.high
+    laid-there-from b a.own _ _ _ o h.below two (omega (arith, h.short, el, eh)) h.enters.high
     (omega (arith, h.output_long, el)) in
     let p = l.1 ∙ past_is _ _ _ h.below (omega (arith, h.short, el, eh)) h.enters.high in
     taken-formed a.fits a.own o a.desc.now b _ _ _ eh el es (zero (goal.at.returns-then-well_formed looked).Else-code-ne0) _ _ f p l.2 (l.0 ∙ q ∙ m)

@@ -1,6 +1,5 @@
 -- `receiving::whole_receive` meets its contract: the message is taken, and then the receive is ended. Assumes nothing.
 use native.Mathlib.Omega.{arith}
-use borrow.Author.Rules.{rules}
 use Rattle.ring.proofs.Taken.{taken_zero, whole-taken}
 use Rattle.ring.proofs.receiving.whole_receive.Goals as goal
 

@@ -1,6 +1,5 @@
 -- `sending::end_send` meets its contract: 0 publishes, and any other number marks. Assumes nothing.
 use native.Mathlib.Omega.{arith}
-use borrow.Author.Rules.{rules}
 use borrow.Author.Tests.{eq-eqb, ne_eqb}
 use Rattle.ring.proofs.sending.end_send.Goals as goal
 

@@ -1,11 +1,9 @@
 -- `sending::place_message` meets its contract: the two dwords that were judged are the first two that are stored, and an
 -- accepted look says that the message fits the ring. Assumes nothing.
-use Prim.Native.Nat.{ℕ, ◌+◌, ◌≤◌}
+use Prim.Native.Nat.{◌+◌, ◌≤◌}
 use mathlib.Core.Path.{◌≡◌, refl, sym, ◌∙◌}
-use mathlib.Core.List.{List}
 use native.Mathlib.Omega.{arith}
 use lib.ListN.{length, drop, length-drop}
-use borrow.Author.Rules.{rules}
 use Rattle.message.proofs.Formed.{message_long}
 use Rattle.ring.specs.AtOnce.{opened_by}
 use Rattle.ring.specs.Numbers.{number_at}
@@ -15,44 +13,37 @@ use Rattle.message.proofs.Slices.{to_end}
 use Rattle.runs.proofs.Straight.{stored_there}
 use Rattle.runs.proofs.Offsets.{past_is}
 use Rattle.ring.proofs.sending.place_message.Goals as goal
-use Rattle.ring.proofs.sending.place_message.Goals.{After-send_decision-code, Else-code-ne0}
-
--- the message that is sent
-abbrev sent : tie.Start → List ℕ
-sent s = let a = s.args in opened_by a.header a.word a.msg.now
-
--- the number of a look at it
-abbrev looks : tie.Start → ℕ
-looks s = let a = s.args in number_at a.fits a.own (sent s) a.desc.now (length a.buf.now)
-
-number : (q : After-send_decision-code) → q.send_decision-code.result ≡ looks q
-number q =
-    let a = q.args in
-    q.send_decision-code.ensures
-    ∙ opened-number a.header a.word a.fits a.own a.msg.now a.desc.now (length a.buf.now)
+use Rattle.ring.proofs.sending.place_message.Goals.{Else-code-ne0}
 
 -- what an accepted look has
-zero : (c : Else-code-ne0) → looks c ≡ 0
-zero c = sym (number c) ∙ c.if-code-ne0.false
+zero :
+    (c : Else-code-ne0)
+    → let a = c.args in
+    number_at a.fits a.own (opened_by a.header a.word a.msg.now) a.desc.now (length a.buf.now) ≡ 0
+zero c =
+    let a = c.args in
+    sym (opened-number a.header a.word a.fits a.own a.msg.now a.desc.now (length a.buf.now)) ∙ sym c.send_decision-code.ensures
+    ∙ c.if-code-ne0.false
 
 has :
     (c : Else-code-ne0)
-    → let s = c in
-    let a = s.args in
-    Accepted a.fits a.own (sent s) a.desc.now (length a.buf.now)
+    → let a = c.args in
+    Accepted a.fits a.own (opened_by a.header a.word a.msg.now) a.desc.now (length a.buf.now)
 has c = accepted _ _ _ _ _ (zero c)
 
 two : (c : Else-code-ne0) → 2 ≤ length c.args.msg.now
 two c =
-    let s = c in
-    let a = s.args in
-    omega (arith, message_long (sent s) (has c).is_message_fact, opened-length a.header a.word a.msg.now)
+    let a = c.args in
+    omega (arith, message_long (opened_by a.header a.word a.msg.now) (has c).is_message_fact, opened-length a.header a.word a.msg.now)
 
 pub returns-then-code-ne0 : goal.returns-then-code-ne0
 returns-then-code-ne0 c =
-    let s = c in
-    let a = s.args in
-    placed_refused a.fits a.own (sent s) a.desc.now a.buf.now _ (number (goal.at.returns-then-code-ne0 c).After-send_decision-code) c.if-code-ne0.true
+    let a = c.args in
+    let sent = opened_by a.header a.word a.msg.now in
+    let number =
+    c.send_decision-code.ensures
+    ∙ opened-number a.header a.word a.fits a.own a.msg.now a.desc.now (length a.buf.now) in
+    placed_refused a.fits a.own sent a.desc.now a.buf.now _ number c.if-code-ne0.true
 
 pub slice_bounds-store_message-count : goal.slice_bounds-store_message-count
 slice_bounds-store_message-count c = two (goal.at.slice_bounds-store_message-count c).Else-code-ne0
@@ -62,15 +53,15 @@ slice_bounds-store_message-start c = two (goal.at.slice_bounds-store_message-sta
 
 pub returns : goal.returns
 returns c =
-    let looked = c in
-    let begin = looked in
-    let a = begin.args in
+    let a = c.args in
     let m = a.msg.now in
+    let sent = opened_by a.header a.word m in
+    let there = (goal.at.returns c).Else-code-ne0 in
     let s = c.store_message-tail.ensures in
-    let h = has (goal.at.returns looked).Else-code-ne0 in
+    let h = has there in
     let o = opened-length a.header a.word m in
-    let l : 2 + length (drop 2 m) ≡ length (sent begin) = simp length-drop (omega (arith, two (goal.at.returns looked).Else-code-ne0, o)) in
-    let parts = rw (to_end 2 m, ← opened-parts a.header a.word m (two (goal.at.returns looked).Else-code-ne0)) at s.0 in
-    let ring = parts ∙ stored_there _ _ (sent begin) h.below (omega (arith, h.room)) in
+    let l : 2 + length (drop 2 m) ≡ length sent = simp length-drop (omega (arith, two there, o)) in
+    let parts = rw (to_end 2 m, ← opened-parts a.header a.word m (two there)) at s.0 in
+    let ring = parts ∙ stored_there _ _ sent h.below (omega (arith, h.room)) in
     let tail = rw (to_end 2 m, l) at s.1 ∙ past_is _ _ _ h.below (omega (arith, h.room)) h.enters.high in
-    rw (zero (goal.at.returns looked).Else-code-ne0) (record { code = refl; no_len = refl; own-tail = tail; small = λ _. s.2; ring = ring })
+    rw (zero there) (record { code = refl; no_len = refl; own-tail = tail; small = λ _. s.2; ring = ring })

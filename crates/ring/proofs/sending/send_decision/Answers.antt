@@ -1,7 +1,6 @@
 -- `sending::send_decision` meets its contract: 1 to 4 are judged first, and past them the descriptor's words decide.
 -- Assumes nothing.
 use mathlib.Core.Path.{refl, sym, ◌∙◌}
-use borrow.Author.Rules.{rules}
 use Rattle.ring.specs.Numbers.{send_decision}
 use Rattle.ring.proofs.Chains.{first-needs-none, first-needs-one}
 use Rattle.ring.proofs.sending.send_decision.Goals as goal

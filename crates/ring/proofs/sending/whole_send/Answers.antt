@@ -1,5 +1,4 @@
 -- `sending::whole_send` meets its contract: a message with its own two dwords is that message. Assumes nothing.
-use borrow.Author.Rules.{rules}
 use Rattle.ring.proofs.Opened.{opened-own}
 use Rattle.ring.proofs.sending.whole_send.Goals as goal
 

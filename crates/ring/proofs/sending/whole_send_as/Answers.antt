@@ -1,7 +1,6 @@
 -- `sending::whole_send_as` meets its contract: the message is placed, and then the send is ended. Assumes nothing.
 use mathlib.Core.Path.{sym, ◌∙◌}
 use native.Mathlib.Omega.{arith}
-use borrow.Author.Rules.{rules}
 use Rattle.ring.specs.AtOnce.{opened_by}
 use Rattle.ring.proofs.Sent.{whole_placed}
 use Rattle.ring.proofs.sending.whole_send_as.Goals as goal
