@@ -7,7 +7,7 @@ use crate::sending::Sender;
 use ring::{DESCRIPTOR_DWORDS, allowed, need, refusal};
 
 // What opening answers.
-#[derive(Drop)]
+#[derive(Clone, Copy)]
 pub struct Opened {
     pub code: u32,
     pub sender: Sender,

@@ -12,7 +12,7 @@ use runs::past;
 
 // A receiver's state: made for a buffer of n dwords, with its own head. Mid-call it has a copy of the dwords that it
 // has moved out of the buffer, of a message of len.
-#[derive(Drop)]
+#[derive(Clone, Copy)]
 pub struct Receiver {
     pub n: usize,
     pub own: usize,
@@ -22,14 +22,14 @@ pub struct Receiver {
 }
 
 // What a receive's look and copy answer.
-#[derive(Drop)]
+#[derive(Clone, Copy)]
 pub struct Stepped {
     pub code: u32,
     pub next: Receiver,
 }
 
 // What a receive's publish, or a whole receive, answers: also the length L of the message laid, 0 where none is.
-#[derive(Drop)]
+#[derive(Clone, Copy)]
 pub struct Received {
     pub code: u32,
     pub len: usize,

@@ -12,7 +12,7 @@ use runs::past;
 
 // A sender's state: made for a buffer of n dwords, with its own tail. Mid-call it has a copy of the message, of
 // len dwords, of which moved are stored.
-#[derive(Drop)]
+#[derive(Clone, Copy)]
 pub struct Sender {
     pub n: usize,
     pub own: usize,
@@ -22,7 +22,7 @@ pub struct Sender {
 }
 
 // What a step of a send, or a whole send, answers: document 01's number and the next state.
-#[derive(Drop)]
+#[derive(Clone, Copy)]
 pub struct Sent {
     pub code: u32,
     pub next: Sender,

@@ -11,7 +11,7 @@ ghost use Rattle.stage.specs.Channels.{with_desc, with_buf, with_sender};
 use channel::{Received, Receiver, Sender, Sent, Stepped};
 
 // A command transport buffer (CTB): descriptor, ring, and the states of both sides.
-#[derive(Drop)]
+#[derive(Clone, Copy)]
 pub struct Ctb {
     pub desc: [u32; 16],
     pub buf: [u32; 1024],
@@ -20,7 +20,7 @@ pub struct Ctb {
 }
 
 // What a call answered, and the buffer as it left it. Only a receive answers a length.
-#[derive(Drop)]
+#[derive(Clone, Copy)]
 pub struct Done {
     pub code: u32,
     pub len: usize,

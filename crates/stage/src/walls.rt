@@ -18,14 +18,14 @@ pub const PLAYERS: usize = 6;
 // How many dwords the buffer has in which their replies come.
 pub const REPLY_N: u16 = 1024;
 
-#[derive(Drop)]
+#[derive(Clone, Copy)]
 pub struct Wall {
     pub table: [Record; PLAYERS],
     pub words: [u16; WALL_WORDS],
 }
 
 // What a call answers, and the wall after it.
-#[derive(Drop)]
+#[derive(Clone, Copy)]
 pub struct Called {
     pub answer: Answer,
     pub wall: Wall,

@@ -1,0 +1,8 @@
+-- `Sender::publish` meets its contract: it is the publish over a ring of this length. Assumes nothing.
+use mathlib.Core.Path.{refl}
+use Rattle.channel.proofs.sending.Sender.publish.Goals as goal
+
+pub returns : goal.returns
+returns c =
+    let after-publish = c in
+    after-publish.publish_at.ensures after-publish.args.buf.now refl
