@@ -1,0 +1,30 @@
+-- `loopback` meets its contract: its three calls are the loop of the definitions, of which demand 3 says that the
+-- message comes back. Assumes nothing.
+use mathlib.Core.Path.{◌≡◌, sym, ap, ◌∙◌, subst}
+use borrow.Author.Rules.{rules}
+use Rattle.channel.specs.Opening.{Opening}
+use Rattle.delivery.specs.Loopback.{Loop, ComesBack}
+use Rattle.delivery.proofs.SelfTest.{loopback}
+use Rattle.delivery.proofs.Calls.{opens_sixteen, opens-allowed, loop_calls}
+use Rattle.delivery.proofs.loopback.Goals as goal
+
+pub returns : goal.returns
+returns c =
+    let received = c in
+    let lent = received in
+    let sent = lent in
+    let opened = sent in
+    let a = opened.args in
+    let d = a.desc.now in
+    let b = a.buf.now in
+    let m = a.msg.now in
+    let o = a.out.now in
+    let start = opened.open_channel-start.ensures in
+    let e = loop_calls d b m o _ _ _ _ _ _ _ _ start sent.send-sent.ensures received.receive-received.ensures in
+    record {
+      out_after = e;
+      comes_back =
+      λ z.
+          let n = sym (ap (λ (y : Opening). y.code) start) ∙ z in
+          subst (ComesBack m o) (sym e) (loopback d b m o (opens_sixteen d b n) (opens-allowed d b n));
+    }
