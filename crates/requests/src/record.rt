@@ -30,7 +30,8 @@ pub struct Record {
 
 // Four numbers of a record side by side: all but what is set aside.
 pub fn word_of(r: Record) -> u64
-    ensures { result ≡ word_of r }
+    ensures word { result ≡ word_of r }
+    ensures back { record_with result r.room ≡ r }
 {
     r.is_open as u64
         + r.fence as u64 * 0x1_0000

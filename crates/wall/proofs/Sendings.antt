@@ -1,7 +1,7 @@
 -- An opening, of its plan, its send, its store and its last fence kept. Assumes nothing.
 use Prim.Native.Nat.{ℕ}
 use mathlib.Core.Path.{◌≡◌, sym, ap, ◌∙◌}
-use mathlib.Core.Bool.{true, false}
+use mathlib.Core.Bool.{true, false, cond}
 use mathlib.Core.List.{List, []}
 use lib.ListN.{length, get_or, set}
 use lib.Dec.{eqb}
@@ -20,13 +20,21 @@ use Rattle.requests.specs.declared.planning.Plan.{Plan}
 use Rattle.requests.specs.declared.state.State as declared
 use Rattle.requests.specs.Calls.{Wall, wall_of, given, open_number, picked_fence, open_by}
 use Rattle.requests.specs.Opening.{send_for, sending}
-use Rattle.requests.specs.Plan.{asks_request, carried, plan_of, state_in, last_kept}
+use Rattle.requests.specs.Plan.{asks_request, carried, plan_of, sent_plan, state_in, last_kept}
 use Rattle.requests.proofs.Plans.{kept-last}
 use Rattle.requests.proofs.Carried.{plan_number, plan_picked, carries_opening, sent_was}
 use Rattle.wall.specs.Sent.{sent_in}
 use Rattle.wall.specs.Private.{planned_send}
-use Rattle.wall.proofs.StateCalls.{Kept}
-use Rattle.wall.proofs.SendCalls.{PlanSent}
+
+-- the state after its last fence is kept
+abbrev pub Kept : List ℕ → ℕ → ℕ → List ℕ → Type 0
+Kept ws was last us = state_in us ≡ record { last = last_kept was last (get_or ws 0 0); n = get_or ws 1 0 }
+
+-- what is sent for a plan, and the plan afterwards
+abbrev pub PlanSent : Plan → ℕ → Ask → List ℕ → List ℕ → List ℕ → List ℕ → Plan → List ℕ → List ℕ → List ℕ → Type 0
+PlanSent p n a ms ss ds bs r s' d' b' =
+    (in_words r.answer.code 0 s' d' b' [] ≡ planned_send p a ms (state_of ss) ds bs)
+    × (r ≡ cond (eqb p.answer.code 0) (sent_plan r.answer.code n p) p)
 
 module _ (ys : List Record) (ws : List ℕ) (room : ℕ) (m : List ℕ) where
   abbrev w : Wall
