@@ -1,5 +1,5 @@
 -- Code partition directories agree with documents 01 and 02. Assumes nothing.
-use Prim.Native.Nat.{ℕ, ◌+◌, ◌-◌, ◌<◌}
+use Prim.Native.Nat.{ℕ, ◌+◌, ◌<◌}
 use mathlib.Core.Path.{◌≡◌, refl, sym, ap, ◌∙◌}
 use mathlib.Core.Logic.{◌↔◌}
 use mathlib.Core.Bool.{Bool, true, false, cond}
@@ -12,7 +12,7 @@ use Rattle.firmware.specs.Bytes.{then}
 use Rattle.firmware.specs.Css
 use Rattle.firmware.specs.Cpd
 use Rattle.firmware.specs.Inside.{huc_name, huc_blob, huc_located, huc_number, huc_span}
-use Rattle.firmware.specs.Inside.{huc_truncated, manifest_name, manifest_number, part_named, within}
+use Rattle.firmware.specs.Inside.{huc_truncated, manifest_name, manifest_number, part_named}
 use Rattle.firmware.specs.Version.{css_reading, huc_reading, manifest_reading, manifest_version, reading}
 use Rattle.firmware.specs.Private.{outer}
 use Rattle.firmware.specs.declared.bytes.Located.{Located}

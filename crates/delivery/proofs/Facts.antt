@@ -11,7 +11,6 @@ use borrow.Author.Tests.{leb-true, le-leb, eqb-false}
 use lib.ListN.{length, get_or, take, drop, set}
 use lib.Seq.{take_all, take-append_seam, get_or-set_other}
 use lib.Dec.{leb, eqb}
-use Rattle.message.specs.Fields.{holds}
 use Rattle.message.specs.Header.{is_message}
 use Rattle.message.proofs.Formed.{message_long}
 use Rattle.ring.specs.Numbers.{need}

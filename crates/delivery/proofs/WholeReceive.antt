@@ -6,14 +6,13 @@ use Prim.Native.Nat.{ℕ, zero, suc, ◌-◌}
 use lib.ListN.{length}
 use lib.Dec.{eqb}
 use Rattle.channel.specs.Outcome.{Outcome}
-use Rattle.ring.specs.Ring.{good}
 use Rattle.channel.specs.Steps.{moves}
 use Rattle.channel.specs.Receive
 use Rattle.ring.proofs.Chains.{ok}
 use Rattle.message.proofs.Tests.{cases}
 use Rattle.delivery.specs.Plain.{PlainOutcome, Plain, Receiving, descriptor, first, not_receiving, receiving}
 use Rattle.delivery.specs.Plain
-use Rattle.delivery.proofs.Invariant.{Inv, bad, first-needs_ok, plain, receive_state, receiver_of}
+use Rattle.delivery.proofs.Invariant.{Inv, bad, first-needs_ok, plain, receiver_of}
 use Rattle.delivery.proofs.ReceiveSteps.{ReceiveSim, as_receiver, fits-idle, fits_not, look_sim, move_sim, pub_sim}
 
 pub moves_sim :

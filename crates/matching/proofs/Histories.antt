@@ -1,6 +1,6 @@
 -- What the table sets aside is what the history holds, after every call on a wall that was made fresh. Assumes nothing.
 use Prim.Native.Nat.{ℕ, zero, suc, ◌+◌, ◌-◌, ◌≤◌}
-use mathlib.Core.Path.{◌≡◌, refl, sym, ap, ◌∙◌}
+use mathlib.Core.Path.{◌≡◌, refl, sym, ap, ◌∙◌, subst}
 use mathlib.Core.Bool.{true, cond}
 use mathlib.Core.List.{List, [], ◌∷◌}
 use mathlib.Core.Option.{Option, none, some}
@@ -17,7 +17,7 @@ use Rattle.requests.specs.Calls.{Wall, Outcome, refused, picked_fence, reply_at,
 use Rattle.matching.specs.Map.{Entry, there, room_of, busier}
 use Rattle.matching.specs.Lists.{Call, open_call, reply_call, outcome, run, end}
 use Rattle.matching.specs.History.{Held, held_for, without, held_after, held_from, still_held, sum_of}
-use Rattle.matching.specs.Matching.{at, Good, entry_in, open_records, ByHistory}
+use Rattle.matching.specs.Matching.{Good, entry_in, open_records, ByHistory}
 use Rattle.matching.proofs.Maps.{put_same, put_other}
 use Rattle.matching.proofs.Tables.{entry_of, has_open, free-closed, closed_none, lowest_free_lem, place_has, place_entry}
 use Rattle.matching.proofs.Sets.{Stores, open_set, aside-set, stored-entry}
@@ -124,7 +124,10 @@ module _ (v : Held → ℕ) (u : Option Entry → ℕ) (t : List Record) (hs : L
       cases (eqb n.fence h)
       (λ c.
       let y : f ≡ h = sym q ∙ eqb-true n.fence h c in
-      rw (c, ← y) (omega (arith, z, e, store_own)))
+      let none : value_for v h hs ≡ 0 = subst (λ (x : ℕ). value_for v x hs ≡ 0) y z in
+      let own : u (entry_in after h) ≡ u (entry_in (r ∷ []) f) =
+      subst (λ (x : ℕ). u (entry_in after x) ≡ u (entry_in (r ∷ []) f)) y store_own in
+      rw c (omega (arith, none, e, own)))
       (λ c.
       let d : h ≡ f → ⊥ = λ y. eqb-false n.fence h c (q ∙ sym y) in
       rw c (omega (arith, k h, store_other h d)))
@@ -178,8 +181,8 @@ module _ (w : Wall) (g : Good w.table) (hs : List Held) (k : Kept w hs) where
     abbrev r : Record
     r = answered w g f
 
-    is_open : is_open r ≡ true
-    is_open = has_open f r (place_has t f s)
+    opened_already : is_open r ≡ true
+    opened_already = has_open f r (place_has t f s)
 
     its_entry : entry_in t f ≡ some (entry_of r)
     its_entry = place_entry t f s
@@ -188,9 +191,9 @@ module _ (w : Wall) (g : Good w.table) (hs : List Held) (k : Kept w hs) where
     kept-busy =
         let b : Record = record_after 3 r in
         let z : Stores t i b f = reply-stores w g f 3 s in
-        let o : is_open b ≡ true = unfold is_open record_after in is_open in
-        let a = rw (is_open, o) at (aside-set t i b z.inside) in
-        let c = rw (is_open, o) at (open_set t i b z.inside) in
+        let o : is_open b ≡ true = unfold is_open record_after in opened_already in
+        let a = rw (opened_already, o) at (aside-set t i b z.inside) in
+        let c = rw (opened_already, o) at (open_set t i b z.inside) in
         let same : b.room ≡ r.room = unfold record_after in refl in
         let own : entry_in (b ∷ []) f ≡ some (busier (entry_of r)) = busy-entry f r (place_has t f s) in
         let room : room_of (entry_in (b ∷ []) f) ≡ r.room = ap room_of own ∙ (unfold busier in refl) in
@@ -206,8 +209,8 @@ module _ (w : Wall) (g : Good w.table) (hs : List Held) (k : Kept w hs) where
     kept-closed : Kept (record { table = set t i free_record; last = w.last; n = w.n }) (without f hs)
     kept-closed =
         let z : Stores t i free_record f = unfold record_after in reply-stores w g f 5 s in
-        let a = rw (is_open, free-closed) at (aside-set t i free_record z.inside) in
-        let c = rw (is_open, free-closed) at (open_set t i free_record z.inside) in
+        let a = rw (opened_already, free-closed) at (aside-set t i free_record z.inside) in
+        let c = rw (opened_already, free-closed) at (open_set t i free_record z.inside) in
         let room : value_for room_held f hs ≡ r.room = k.rooms f ∙ ap room_of its_entry in
         let one : value_for one_held f hs ≡ 1 = k.ones f ∙ ap one_of its_entry in
         let own : entry_in (free_record ∷ []) f ≡ none = free-entry f in

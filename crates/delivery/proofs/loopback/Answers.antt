@@ -1,9 +1,8 @@
 -- `loopback` meets its contract: its three calls are the loop of the definitions, of which demand 3 says that the
 -- message comes back. Assumes nothing.
-use mathlib.Core.Path.{◌≡◌, sym, ap, ◌∙◌, subst}
-use borrow.Author.Rules.{rules}
+use mathlib.Core.Path.{sym, ap, ◌∙◌, subst}
 use Rattle.channel.specs.Opening.{Opening}
-use Rattle.delivery.specs.Loopback.{Loop, ComesBack}
+use Rattle.delivery.specs.Loopback.{ComesBack}
 use Rattle.delivery.proofs.SelfTest.{loopback}
 use Rattle.delivery.proofs.Calls.{opens_sixteen, opens-allowed, loop_calls}
 use Rattle.delivery.proofs.loopback.Goals as goal
@@ -24,7 +23,7 @@ returns c =
     record {
       out_after = e;
       comes_back =
-      λ z.
+          λ z.
           let n = sym (ap (λ (y : Opening). y.code) start) ∙ z in
           subst (ComesBack m o) (sym e) (loopback d b m o (opens_sixteen d b n) (opens-allowed d b n));
     }
