@@ -1,5 +1,5 @@
 -- A channel by value: what a call answers and leaves, read as the outcome that the channel's own definitions give.
-use Rattle.std.specs.Prelude.{◌≡◌, ℕ, List, [], set, replicate}
+use Rattle.std.specs.Prelude.{◌≡◌, ℕ, List, [], replicate}
 use Rattle.channel.specs.State.{State, of_sender, of_receiver, idle_at}
 use Rattle.channel.specs.Outcome.{Outcome}
 use Rattle.channel.specs.Opening.{Opening}

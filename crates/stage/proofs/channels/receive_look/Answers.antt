@@ -1,0 +1,13 @@
+-- `channels::receive_look` meets its contract: it is the receiver's own step, on the channel's contents. Assumes
+-- nothing.
+use Rattle.std.proofs.Common.{◌∙◌}
+use Rattle.stage.proofs.channels.receive_look.Goals as goal
+
+pub returns : goal.returns
+returns c =
+    let did = c.after_receive.ensures in
+    let step = c in
+    record {
+      does = did.0 _ ∙ step.no_length.ensures _ _ ∙ step.look-stepped.ensures;
+      leaves = did.1;
+    }
