@@ -10,7 +10,7 @@ use lib.Dec.{ltb}
 use borrow.Author.Tests.{eq-eqb, ne_eqb, lt-ltb, le-ltb, ltb-true, ltb-false}
 use Rattle.message.proofs.Tests.{cases}
 use Rattle.record.specs.Numbers.{number_of}
-use Rattle.record.specs.Runs.{judged_by, judged, ends, behind, cut}
+use Rattle.record.specs.Runs.{judged_by, judged, behind, cut}
 use Rattle.record.specs.Files.{run_of, start_of, whole_of, took_of, intact, bad_of, fault_of}
 use Rattle.record.specs.Private.{message_of, message_in}
 use Rattle.record.proofs.Forms.{run-bad, number_nil, start_zero, start_add, start-within, start_least, run_drop}
