@@ -1,5 +1,7 @@
 -- `demand_1` meets its contract: each call's number is that of the first row of the table that is given. Assumes
 -- nothing.
+-- ---- operations
+-- ---- every call
 use Prim.Native.Nat.{ℕ, zero, suc}
 use mathlib.Core.Path.{◌≡◌, refl, ◌∙◌}
 use mathlib.Core.Bool.{true, false}
@@ -39,10 +41,7 @@ use Rattle.refusals.proofs.Files.{image-number, location_refused, manifest_numbe
 use Rattle.refusals.proofs.Files.{reading-refused, refused_nothing, seek_number, unpacks}
 use Rattle.refusals.proofs.Walls.{fresh-number, fresh-refused, received-number, reply-number, reply-refused}
 use Rattle.refusals.proofs.Requests.{send-number, send-refused, send-reserved}
-use Rattle.refusals.proofs.demand_1.Statement.{statement}
-use Rattle.refusals.proofs.demand_1.Tie as tie
-
--- ---- operations
+use Rattle.refusals.proofs.demand_1.Goals as goal
 
 operation_number : (op : Op) (s : State) (d b : List ℕ) → (gives op s d b).code ≡ first_of (operation_rows op s d b)
 operation_number (send_look m) s d b = (send-look s m b).codes d ∙ send_looks_fact s m d b
@@ -90,8 +89,6 @@ no_call receive_look n = rw (not_made n)
 no_call receive_move n = rw (not_made n)
 no_call (receive_publish o) n = rw (not_made n)
 no_call (receive_whole o) n = rw (not_made n)
-
--- ---- every call
 
 rise : (x : PublicCall) → all_rise (tests x) ≡ true
 unfolding all_rise rising
@@ -197,8 +194,5 @@ demand1 =
       fit_no_call = no_call;
     }
 
-returns : tie.Need-returns
+pub returns : goal.returns
 returns c = demand1
-
-pub demand_1_spec : {M : Type 1} → statement M
-demand_1_spec = tie.close (tie.spec returns)

@@ -4,13 +4,13 @@ use mathlib.Core.Path.{◌≡◌, refl}
 use mathlib.Core.Bool.{true}
 use Rattle.refusals.specs.RecordRefusals.{RecordCall, RecordDemand1, RecordLeftBy, record_number_of, record_tests}
 use Rattle.refusals.specs.RecordRefusals.{add_call, read_call, write_call}
-use Rattle.refusals.proofs.Lowest.{accepts, all_rise, exactly, first_judged}
+use Rattle.refusals.proofs.Lowest.{accepts, all_rise, exactly, first_judged, rising}
 use Rattle.refusals.proofs.Records.{add_number_fact, add_refused, read_number_lem, read_refused}
 use Rattle.refusals.proofs.Records.{write_number_fact, write_refused}
-use Rattle.refusals.proofs.record_demand_1.Statement.{statement}
-use Rattle.refusals.proofs.record_demand_1.Tie as tie
+use Rattle.refusals.proofs.record_demand_1.Goals as goal
 
 rise : (x : RecordCall) → all_rise (record_tests x) ≡ true
+unfolding all_rise rising
 rise (add_call run place direction m) = refl
 rise (write_call run out) = refl
 rise (read_call file out) = refl
@@ -26,13 +26,10 @@ left (add_call run place direction m) z = add_refused run place direction m z
 left (write_call run out) z = write_refused run out z
 left (read_call file out) z = read_refused file out
 
-returns : tie.Need-returns
+pub returns : goal.returns
 returns c =
     record {
       exact = λ x c. exactly (record_tests x) (record_number_of x) c (rise x) (number x);
       accepts = λ x. accepts (record_tests x) (record_number_of x) (rise x) (number x);
       left = left;
     }
-
-pub record_demand_1_spec : {M : Type 1} → statement M
-record_demand_1_spec = tie.close (tie.spec returns)

@@ -28,10 +28,10 @@ use Rattle.examples.specs.Example.{Each}
 use Rattle.examples.specs.Walls.{walls}
 use Rattle.examples.specs.Inputs
 use Rattle.examples.specs.Table.{table, fresh_channel, once, twice, thrice, full, stores, around}
-use Rattle.examples.proofs.worked_examples.Statement.{statement}
-use Rattle.examples.proofs.worked_examples.Tie as tie
+use Rattle.examples.proofs.worked_examples.Goals as goal
 
 infixr 5 ◌&◌
+
 -- a row, and the rows after it
 abbrev ◌&◌ : {A B : Type 0} → A → B → A × B
 ◌&◌ row rows = (row, rows)
@@ -90,8 +90,5 @@ of_walls =
     & refl & refl & refl & refl & refl & refl
     & tt
 
-returns : tie.Need-returns
+pub returns : goal.returns
 returns c = (examples, of_walls)
-
-pub worked_examples_spec : {M : Type 1} → statement M
-worked_examples_spec = tie.close (tie.spec returns)

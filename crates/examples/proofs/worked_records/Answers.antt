@@ -9,10 +9,10 @@ use Rattle.record.specs.Calls as Recording
 use Rattle.examples.specs.Example.{Each}
 use Rattle.examples.specs.Records.{records}
 use Rattle.examples.specs.Inputs
-use Rattle.examples.proofs.worked_records.Statement.{statement}
-use Rattle.examples.proofs.worked_records.Tie as tie
+use Rattle.examples.proofs.worked_records.Goals as goal
 
 infixr 5 ◌&◌
+
 -- a row, and the rows after it
 abbrev ◌&◌ : {A B : Type 0} → A → B → A × B
 ◌&◌ row rows = (row, rows)
@@ -32,8 +32,5 @@ of_records =
     & refl & refl & refl
     & tt
 
-returns : tie.Need-returns
+pub returns : goal.returns
 returns c = of_records
-
-pub worked_records_spec : {M : Type 1} → statement M
-worked_records_spec = tie.close (tie.spec returns)
