@@ -1,5 +1,5 @@
 # What ./fwparts and ./traffic share: builds a proved program of crates/, where there is none that is up to date, and runs
-# it. The program's language has no exit status: the script that reads this file takes it from the program's last line.
+# it. The program ends with status 0 whatever it found: the script that reads this file takes its own from the last line.
 # That script sets `name`, the program's crate; `STACK_KIB`, the stack that it needs; `void`, what its output is worth
 # once it died; and calls usage_first, enough_stack, up_to_date || build, and run_program with its words.
 # shellcheck shell=bash
@@ -30,7 +30,7 @@ enough_stack() {
 }
 
 root=$(dirname "$(readlink -f "${BASH_SOURCE[0]}")")
-program=$root/target/bin/$name
+program=$root/crates/$name/out/$name
 began=$root/target/$name.began # is there while a build is not done: since when
 
 # The crates that one stands on, and itself. The kit's libraries have no line in crates.txt.
@@ -50,22 +50,30 @@ while IFS=: read -r crate on || [ -n "$crate" ]; do
 done <"$root/crates.txt"
 stands_on "$name"
 
-# Whether the program is newer than all that it is built from. A folder is newer where a file of it went.
+# Whether the program is newer than all that it is built from. A folder is newer where a file of it went. What rt made of
+# a crate is in its folder out/.
 up_to_date() {
-    local crate file
+    local crate part file
     [ -x "$program" ] && [ ! -e "$began" ] && [ "$program" -nt "$root/crates.txt" ] || return
     shopt -s globstar nullglob
     for crate in $crates; do
-        for file in "$root/crates/$crate" "$root/crates/$crate"/**; do
-            [ "$program" -nt "$file" ] || return
+        [ "$program" -nt "$root/crates/$crate" ] || return
+        for part in "$root/crates/$crate"/*; do
+            [ "${part##*/}" != out ] || continue
+            for file in "$part" "$part"/**; do
+                [ "$program" -nt "$file" ] || return
+            done
         done
     done
 }
 
 checked() {
-    cd "$root" && mkdir -p target && : >"$began" || return
-    [ -x "$program" ] || rm -f "target/stamp/$name" # rt makes no program again whose stamp it finds
-    rt check "$name" >"target/$name.log" 2>&1 || return
+    local crate
+    cd "$root" && mkdir -p target || return
+    for crate in $crates; do mkdir -p "crates/$crate/out" || return; done # made later they would make those folders newer
+    : >"$began" || return
+    # rt has no word for building a program without running it.
+    (cd "crates/$name" && rt run -- --help) >"target/$name.log" 2>&1 || return
     # What rt found unchanged it leaves as old as it was.
     touch -r "$began" "$program" && rm -f "$began"
 }
