@@ -70,7 +70,8 @@ up_to_date() {
 checked() {
     local crate
     cd "$root" && mkdir -p target || return
-    for crate in $crates; do mkdir -p "crates/$crate/out" || return; done # made later they would make those folders newer
+    for crate in $crates; do mkdir -p "crates/$crate/out" || return; done # made later it would make the crate newer
+    sleep 0.02 # and so would one made in the same tick
     : >"$began" || return
     # rt has no word for building a program without running it.
     (cd "crates/$name" && rt run -- --help) >"target/$name.log" 2>&1 || return
