@@ -5,25 +5,12 @@ ghost use Rattle.std.specs.Prelude.{◌≡◌, true, ◌↔◌, length, take};
 pub fn equal(a: &[u8], b: &[u8]) -> bool
     ensures { (result ≡ true) ↔ (a.now ≡ b.now) }
 {
-    if a.len() != b.len() {
-        return false;
-    }
-    starts(a, b)
+    a == b
 }
 
 // Whether a starts with b.
 pub fn starts(a: &[u8], b: &[u8]) -> bool
     ensures { (result ≡ true) ↔ (take (length b.now) a.now ≡ b.now) }
 {
-    if a.len() < b.len() {
-        return false;
-    }
-    let mut i = 0;
-    while i < b.len() {
-        if a[i] != b[i] {
-            return false;
-        }
-        i += 1;
-    }
-    true
+    a.starts_with(b)
 }

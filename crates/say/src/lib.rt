@@ -1,6 +1,6 @@
 // The words that programs print: templates with numbers in them, one sentence for each number that says no, the ring's
-// picture, and the versions and parts of firmware files. Printing answers nothing, so the functions here have no more
-// to promise than that they end and do nothing undefined.
+// picture, and the versions and parts of firmware files. Nothing says what reaches the system, so what prints
+// has no more to promise than that it ends and does nothing undefined; it answers whether the system took the text.
 #![tactic(auto)]
 
 mod answers;

@@ -1,26 +1,25 @@
 // Names that somebody else chose, of files and of entries: in quotes, and escaped so that none can end its quotes, its
 // line or look like another.
 use crate::print::text;
+use std::io;
 
 // A byte of a name: printable ASCII as it stands, a quote or a backslash behind a backslash, any other by its
 // hexadecimal digits.
-fn letter(b: u8) {
+fn letter(rt: &impl Print, b: u8) -> io::Result<()> {
     if (b < 0x20) | (0x7e < b) {
-        text(b"\\x");
-        io::print_hex(1, b as u64, 2);
-        return;
+        return print!(rt; "\\x{b:02x}");
     }
     if (b == b'"') | (b == b'\\') {
-        text(b"\\");
+        text(rt, b"\\")?;
     }
-    io::write_all(1, &[b]);
+    text(rt, &[b])
 }
 
 // A name in quotes.
-pub fn quoted(name: &[u8]) {
-    text(b"\"");
+pub fn quoted(rt: &impl Print, name: &[u8]) -> io::Result<()> {
+    text(rt, b"\"")?;
     for i in 0..name.len() {
-        letter(name[i]);
+        letter(rt, name[i])?;
     }
-    text(b"\"");
+    text(rt, b"\"")
 }

@@ -1,10 +1,12 @@
 // What each number means, and each STATUS: the one place of these sentences in the programs. They are the C header's
 // (GUC_NUMBERS), and the gate compares the two (interop/words).
 use crate::print::{one, part, text};
+use std::io;
 
 // The sentence for a number, 1 to 22, 26 to 30 and 35; nothing for another.
-pub fn sentence(code: u32) {
+pub fn sentence(rt: &impl Print, code: u32) -> io::Result<()> {
     line(
+        rt,
         b"\n\
           the descriptor is not 16 dwords\n\
           a ring has a multiple of 1024 dwords, from 1024 to 16384\n\
@@ -37,30 +39,32 @@ pub fn sentence(code: u32) {
           \n\n\n\n\
           a table has 1 to 256 records, no two open with one fence\n",
         code as usize,
-    );
+    )
 }
 
 // A number and its sentence: 11 (nothing pending).
-pub fn number(code: u32) {
-    one(b"% (", code as u64);
-    sentence(code);
-    text(b")");
+pub fn number(rt: &impl Print, code: u32) -> io::Result<()> {
+    one(rt, b"% (", code as u64)?;
+    sentence(rt, code)?;
+    text(rt, b")")
 }
 
 // A STATUS and what it means.
-pub fn status(s: u32) {
-    one(b"% (", s as u64);
+pub fn status(rt: &impl Print, s: u32) -> io::Result<()> {
+    one(rt, b"% (", s as u64)?;
     let named = if s < 9 { s } else { 3 };
     line(
+        rt,
         b"good\noverflow\nunderflow\nbroken\nmismatch\nbroken\nbroken\nbroken\nunused\n",
         named as usize,
-    );
-    text(b")");
+    )?;
+    text(rt, b")")
 }
 
 // What is wrong at the byte of a record file that 29 names, 1 to 7 (GUC_FAULT_..).
-pub fn fault(f: u32) {
+pub fn fault(rt: &impl Print, f: u32) -> io::Result<()> {
     line(
+        rt,
         b"\n\
           the file ends inside a number\n\
           the file ends inside a message\n\
@@ -70,12 +74,12 @@ pub fn fault(f: u32) {
           L is not 1 to 256\n\
           the header disagrees with L\n",
         f as usize,
-    );
+    )
 }
 
 // Line k of a text, counted from 0; nothing where there is no such line.
-pub fn line(t: &[u8], k: usize) {
-    text(line_of(t, k));
+pub fn line(rt: &impl Print, t: &[u8], k: usize) -> io::Result<()> {
+    text(rt, line_of(t, k))
 }
 
 // The same as bytes.
@@ -87,7 +91,7 @@ pub fn line_of(t: &[u8], k: usize) -> &[u8] {
             if at == k {
                 return part(t, from, i);
             }
-            at = std::num::wrapping_add_usize(at, 1);
+            at = at.wrapping_add(1);
             from = i + 1;
         }
     }

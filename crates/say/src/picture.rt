@@ -1,6 +1,7 @@
 // The ring's picture: 64 characters for 1,024 places, 16 to a character.
 use crate::answers::{PLACES, descriptor, used_of};
 use crate::print::text;
+use std::io;
 
 // The places of a character.
 const WIDE: usize = 16;
@@ -23,7 +24,7 @@ fn mark(place: usize, head: usize, tail: usize) -> u8 {
 
 // '#' where one of 16 places is used, '.' where all are free.
 fn cell(place: usize, head: usize, used: usize) -> u8 {
-    let past_head = std::num::wrapping_sub_usize(place, head) % PLACES;
+    let past_head = place.wrapping_sub(head) % PLACES;
     if (past_head < used) | (lies_in(place, head) & (0 < used)) {
         b'#'
     } else {
@@ -32,30 +33,32 @@ fn cell(place: usize, head: usize, used: usize) -> u8 {
 }
 
 // The marks up to the last of the two.
-fn marks(head: usize, tail: usize, last: usize) {
+fn marks(rt: &impl Print, head: usize, tail: usize, last: usize) -> io::Result<()> {
     for i in 0..64 {
         let place = WIDE * i;
         if last < place {
-            return;
+            return Ok(());
         }
-        io::write_all(1, &[mark(place, head, tail)]);
+        text(rt, &[mark(place, head, tail)])?;
     }
+    Ok(())
 }
 
-fn cells(head: usize, used: usize) {
+fn cells(rt: &impl Print, head: usize, used: usize) -> io::Result<()> {
     for i in 0..64 {
-        io::write_all(1, &[cell(WIDE * i, head, used)]);
+        text(rt, &[cell(WIDE * i, head, used)])?;
     }
+    Ok(())
 }
 
 // The ring with HEAD and TAIL over it, and the descriptor under it.
-pub fn ring(head: u32, tail: u32, status: u32) {
+pub fn ring(rt: &impl Print, head: u32, tail: u32, status: u32) -> io::Result<()> {
     let h = head as usize;
     let t = tail as usize;
-    text(b"    ");
-    marks(h, t, if h < t { t } else { h });
-    text(b"\n    ");
-    cells(h, used_of(h, t));
-    text(b"\n    ");
-    descriptor(head, tail, status);
+    text(rt, b"    ")?;
+    marks(rt, h, t, if h < t { t } else { h })?;
+    text(rt, b"\n    ")?;
+    cells(rt, h, used_of(h, t))?;
+    text(rt, b"\n    ")?;
+    descriptor(rt, head, tail, status)
 }

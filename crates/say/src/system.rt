@@ -1,22 +1,25 @@
-// The system's numbers in words: why a file cannot be opened, read or written.
+// The system's errors in words: why a file cannot be opened, read or written.
 use crate::answers::end;
 use crate::numbers::line;
+use std::io;
+use std::io::ErrorKind;
 
 // What it means; ends the line. In the line that it belongs to, and not on standard error, which a terminal would show
 // between the pieces of another.
-pub fn reason(error: i32) {
+pub fn reason(rt: &impl Print, error: ErrorKind) -> io::Result<()> {
     let k = match error {
-        libc::ENOENT => 0,
-        libc::EACCES | libc::EPERM => 1,
-        libc::EISDIR => 2,
-        libc::EEXIST => 3,
-        libc::ENOSPC => 4,
-        libc::ENOTDIR => 5,
-        libc::ENAMETOOLONG => 6,
-        libc::EROFS => 7,
+        ErrorKind::NotFound => 0,
+        ErrorKind::PermissionDenied => 1,
+        ErrorKind::IsADirectory => 2,
+        ErrorKind::AlreadyExists => 3,
+        ErrorKind::StorageFull => 4,
+        ErrorKind::NotADirectory => 5,
+        ErrorKind::InvalidFilename => 6,
+        ErrorKind::ReadOnlyFilesystem => 7,
         _ => 8,
     };
     line(
+        rt,
         b"there is no such file or folder\n\
           you have no right to it\n\
           it is a folder\n\
@@ -27,6 +30,6 @@ pub fn reason(error: i32) {
           the disk is read-only\n\
           the system refuses it\n",
         k,
-    );
-    end();
+    )?;
+    end(rt)
 }
