@@ -10,20 +10,23 @@ mod turned_away;
 mod wording;
 
 // The scenes, each on channels of its own.
-fn main() {
-    foreword();
-    filling::fresh_and_full();
-    filling::around_the_end();
-    broken::spoilt_descriptors();
-    broken::cut_short();
-    broken::passed_over();
-    steps::interleaved();
-    turned_away::turned_away();
+use std::io;
+
+fn main(rt: HostRuntime) -> io::Result<()> {
+    foreword(&rt)?;
+    filling::fresh_and_full(&rt)?;
+    filling::around_the_end(&rt)?;
+    broken::spoilt_descriptors(&rt)?;
+    broken::cut_short(&rt)?;
+    broken::passed_over(&rt)?;
+    steps::interleaved(&rt)?;
+    turned_away::turned_away(&rt)
 }
 
 // What a reader of the lines has to know.
-fn foreword() {
+fn foreword(rt: &impl Print) -> io::Result<()> {
     say::text(
+        rt,
         b"A sender stores messages in a ring of 1024 places, one dword in each; a\n\
           receiver takes them out in order.\n\
           A message has a number, its fence, and a length of 2 to 256 dwords.\n\
@@ -32,5 +35,5 @@ fn foreword() {
           STATUS 0 is good, any other is broken.\n\
           A refused call leaves all as it was, but 7, 8 and 9 set STATUS, and 13 moves\n\
           HEAD past the message.\n",
-    );
+    )
 }

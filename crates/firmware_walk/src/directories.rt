@@ -2,6 +2,7 @@
 use crate::wording::sought;
 use say::{four, one, text, two};
 use stage::{Room, cut};
+use std::io;
 
 // Two entries after a header of 20 bytes, so that they end at byte 68, and room behind them.
 // The second entry's part is given.
@@ -19,97 +20,105 @@ pub(crate) fn with_huc(offset: u32, len: u32) -> Room {
 }
 
 // How many entries a directory has, the names of the first two and of one too many, and what it is answered.
-fn listed(blob: &[u8]) {
+fn listed(rt: &impl Print, blob: &[u8]) -> io::Result<()> {
     let d = firmware::cpd_directory(blob);
     two(
+        rt,
         b"% bytes, entries %, names",
         blob.len() as u64,
         d.count as u64,
-    );
-    listed_name(blob, 0);
-    listed_name(blob, 1);
-    listed_name(blob, 2);
-    say::answered(d.code);
+    )?;
+    listed_name(rt, blob, 0)?;
+    listed_name(rt, blob, 1)?;
+    listed_name(rt, blob, 2)?;
+    say::answered(rt, d.code)
 }
 
 // A name of twelve bytes, or none.
-fn listed_name(blob: &[u8], i: usize) {
-    text(b" ");
-    say::quoted(firmware::cpd_name(blob, i));
+fn listed_name(rt: &impl Print, blob: &[u8], i: usize) -> io::Result<()> {
+    text(rt, b" ")?;
+    say::quoted(rt, firmware::cpd_name(blob, i))
 }
 
 // The first len bytes of a directory.
-fn listed_to(room: &Room, len: usize) {
-    listed(cut(room, len));
+fn listed_to(rt: &impl Print, room: &Room, len: usize) -> io::Result<()> {
+    listed(rt, cut(room, len))
 }
 
 // A directory's own numbers: 15, 18 and 19.
-pub(crate) fn entries() {
-    text(b"\nA directory of two entries after a header of 20 bytes: the entries end at 68\n");
+pub(crate) fn entries(rt: &impl Print) -> io::Result<()> {
+    text(
+        rt,
+        b"\nA directory of two entries after a header of 20 bytes: the entries end at 68\n",
+    )?;
     let room = two_entries(b"name_of_this", 68, 0);
-    listed_to(&room, 19);
-    listed_to(&room, 20);
-    listed_to(&room, 67);
-    listed_to(&room, 68);
-    with_byte(b"Header length %: ", room, 10, 19);
-    with_byte(b"Header length %: ", room, 10, 21);
-    with_count(0, 20);
-    with_count(0xffff_ffff, 100);
-    with_byte(b"Marker $CPd: ", room, 3, b'd');
+    listed_to(rt, &room, 19)?;
+    listed_to(rt, &room, 20)?;
+    listed_to(rt, &room, 67)?;
+    listed_to(rt, &room, 68)?;
+    with_byte(rt, b"Header length %: ", room, 10, 19)?;
+    with_byte(rt, b"Header length %: ", room, 10, 21)?;
+    with_count(rt, 0, 20)?;
+    with_count(rt, 0xffff_ffff, 100)?;
+    with_byte(rt, b"Marker $CPd: ", room, 3, b'd')
 }
 
 // The same with another byte, named in a template for its value.
-fn with_byte(template: &[u8], room: Room, at: usize, value: u8) {
+fn with_byte(rt: &impl Print, template: &[u8], room: Room, at: usize, value: u8) -> io::Result<()> {
     let mut other = room;
     stage::put_byte(&mut other, at, value);
-    one(template, value as u64);
-    listed_to(&other, 68);
+    one(rt, template, value as u64)?;
+    listed_to(rt, &other, 68)
 }
 
 // A directory with that entry count and no entries laid.
-fn with_count(count: u32, len: usize) {
+fn with_count(rt: &impl Print, count: u32, len: usize) -> io::Result<()> {
     let mut room = stage::blank();
     stage::put_directory(&mut room, count, 20);
-    one(b"Entry count %: ", count as u64);
-    listed_to(&room, len);
+    one(rt, b"Entry count %: ", count as u64)?;
+    listed_to(rt, &room, len)
 }
 
 // Seeks huc_fw.
-pub(crate) fn sought_huc(room: &Room, len: usize) {
-    sought(firmware::cpd_located(cut(room, len), b"huc_fw"));
+pub(crate) fn sought_huc(rt: &impl Print, room: &Room, len: usize) -> io::Result<()> {
+    sought(rt, firmware::cpd_located(cut(room, len), b"huc_fw"))
 }
 
 // Parts that end where the blob ends, or a byte later.
-pub(crate) fn parts() {
-    text(b"\nThe part of that directory's second entry\n");
-    part_at(68, 0, 67);
-    part_at(68, 0, 68);
-    part_at(69, 0, 68);
-    part_at(68, 1, 68);
-    part_at(68, 1, 69);
-    part_at(68, 0xffff_ffff, 100);
-    text(b"Bits 31:25 of an offset do not count, bit 24 does; 0x44 is 68\n");
-    part_with_bits(0x0200_0044);
-    part_with_bits(0xfe00_0044);
-    part_with_bits(0x0100_0044);
+pub(crate) fn parts(rt: &impl Print) -> io::Result<()> {
+    text(rt, b"\nThe part of that directory's second entry\n")?;
+    part_at(rt, 68, 0, 67)?;
+    part_at(rt, 68, 0, 68)?;
+    part_at(rt, 69, 0, 68)?;
+    part_at(rt, 68, 1, 68)?;
+    part_at(rt, 68, 1, 69)?;
+    part_at(rt, 68, 0xffff_ffff, 100)?;
+    text(
+        rt,
+        b"Bits 31:25 of an offset do not count, bit 24 does; 0x44 is 68\n",
+    )?;
+    part_with_bits(rt, 0x0200_0044)?;
+    part_with_bits(rt, 0xfe00_0044)?;
+    part_with_bits(rt, 0x0100_0044)
 }
 
 // A part with that offset and length, in a blob of so many bytes.
-fn part_at(offset: u32, len: u32, bytes: usize) {
+fn part_at(rt: &impl Print, offset: u32, len: u32, bytes: usize) -> io::Result<()> {
     let room = with_huc(offset, len);
     four(
+        rt,
         b"Offset %, length %, in % bytes",
         offset as u64,
         len as u64,
         bytes as u64,
         0,
-    );
-    sought_huc(&room, bytes);
+    )?;
+    sought_huc(rt, &room, bytes)
 }
 
 // A part of 8 bytes with that offset as it is stored.
-fn part_with_bits(offset: u32) {
+fn part_with_bits(rt: &impl Print, offset: u32) -> io::Result<()> {
     let room = with_huc(offset, 8);
-    one(b"Offset &, length 8, in 100 bytes", offset as u64);
-    sought_huc(&room, 100);
+    one(rt, b"Offset &, length 8, in 100 bytes", offset as u64)?;
+    sought_huc(rt, &room, 100)
 }

@@ -3,6 +3,7 @@ use crate::names::put_huc;
 use firmware::ManifestVersion;
 use say::{text, two};
 use stage::{Room, cut};
+use std::io;
 
 // A directory with the manifest under its own name at byte 68 and the image at byte 112, of those lengths.
 fn directory(manifest_len: u32, image_len: u32, h: usize) -> Room {
@@ -15,95 +16,105 @@ fn put_manifest(s: &mut [u8], at: usize, offset: u32, len: u32) {
 }
 
 // Manifests on both sides of 44 bytes, and blobs without one.
-pub(crate) fn manifests() {
-    text(b"\nManifests: HUCP.man at 68, which with length 44 ends at 112\n");
-    manifest_of(43, 300);
-    manifest_of(44, 300);
-    manifest_of(44, 112);
-    manifest_of(44, 111);
-    manifest_of(44, 67);
-    other_manifests();
+pub(crate) fn manifests(rt: &impl Print) -> io::Result<()> {
+    text(
+        rt,
+        b"\nManifests: HUCP.man at 68, which with length 44 ends at 112\n",
+    )?;
+    manifest_of(rt, 43, 300)?;
+    manifest_of(rt, 44, 300)?;
+    manifest_of(rt, 44, 112)?;
+    manifest_of(rt, 44, 111)?;
+    manifest_of(rt, 44, 67)?;
+    other_manifests(rt)
 }
 
 // A manifest of that length, in a blob of so many bytes.
-fn manifest_of(len: u32, bytes: usize) {
+fn manifest_of(rt: &impl Print, len: u32, bytes: usize) -> io::Result<()> {
     let room = directory(len, 160, 35);
-    two(b"Length %, in % bytes", len as u64, bytes as u64);
-    manifest(&room, bytes);
+    two(rt, b"Length %, in % bytes", len as u64, bytes as u64)?;
+    manifest(rt, &room, bytes)
 }
 
 // What a manifest is answered, or its version.
-fn manifest(room: &Room, bytes: usize) {
+fn manifest(rt: &impl Print, room: &Room, bytes: usize) -> io::Result<()> {
     let v = firmware::manifest_version(cut(room, bytes));
     match v {
-        ManifestVersion::Refused(code) => say::answered(code),
+        ManifestVersion::Refused(code) => say::answered(rt, code)?,
         _ => {
-            text(b": accepted; firmware version ");
-            say::manifest_version(v);
-            say::end();
+            text(rt, b": accepted; firmware version ")?;
+            say::manifest_version(rt, v)?;
+            say::end(rt)?;
         }
     }
+    Ok(())
 }
 
 // Another name in its place, and its name twice.
-fn other_manifests() {
+fn other_manifests(rt: &impl Print) -> io::Result<()> {
     let mut other = directory(44, 160, 35);
     stage::put_entry(&mut other, 20, b"HUCP.met", 68, 44);
-    text(b"HUCP.met instead");
-    manifest(&other, 300);
+    text(rt, b"HUCP.met instead")?;
+    manifest(rt, &other, 300)?;
     put_manifest(&mut other, 20, 68, 44);
     put_manifest(&mut other, 44, 112, 160);
-    text(b"HUCP.man twice");
-    manifest(&other, 300);
+    text(rt, b"HUCP.man twice")?;
+    manifest(rt, &other, 300)
 }
 
 // The image in the first bytes of a directory, judged.
-fn judged_to(room: &Room, bytes: usize) {
-    say::inner_image(cut(room, bytes));
+fn judged_to(rt: &impl Print, room: &Room, bytes: usize) -> io::Result<()> {
+    say::inner_image(rt, cut(room, bytes))
 }
 
 // An image in a part of that length, with that h.
-fn image_of(len: u32, h: usize) {
+fn image_of(rt: &impl Print, len: u32, h: usize) -> io::Result<()> {
     let room = directory(44, len, h);
-    two(b"Length %, h %", len as u64, h as u64);
-    judged_to(&room, 300);
+    two(rt, b"Length %, h %", len as u64, h as u64)?;
+    judged_to(rt, &room, 300)
 }
 
 // Images that are accepted.
-pub(crate) fn accepted_images() {
-    text(b"\nImages in a directory of 300 bytes: huc_fw at 112, with s 40, k 1, m 1, e 1\n");
-    image_of(160, 35);
-    image_of(161, 35);
-    image_of(188, 35);
-    image_of(159, 35);
-    image_of(152, 35);
+pub(crate) fn accepted_images(rt: &impl Print) -> io::Result<()> {
+    text(
+        rt,
+        b"\nImages in a directory of 300 bytes: huc_fw at 112, with s 40, k 1, m 1, e 1\n",
+    )?;
+    image_of(rt, 160, 35)?;
+    image_of(rt, 161, 35)?;
+    image_of(rt, 188, 35)?;
+    image_of(rt, 159, 35)?;
+    image_of(rt, 152, 35)?;
     let mut room = directory(44, 160, 35);
     stage::put_dword(&mut room, 56, 0x0200_0070);
-    text(b"Length 160, h 35, offset 112 with bit 25 set");
-    judged_to(&room, 300);
+    text(rt, b"Length 160, h 35, offset 112 with bit 25 set")?;
+    judged_to(rt, &room, 300)
 }
 
 // Images that the image's rules or the directory's refuse.
-pub(crate) fn refused_images() {
-    text(b"\nImages in that directory that are refused; 188 bytes are left from 112 on\n");
-    image_of(151, 35);
-    image_of(127, 35);
-    image_of(0, 35);
-    image_of(160, 36);
-    image_of(189, 35);
-    other_images();
+pub(crate) fn refused_images(rt: &impl Print) -> io::Result<()> {
+    text(
+        rt,
+        b"\nImages in that directory that are refused; 188 bytes are left from 112 on\n",
+    )?;
+    image_of(rt, 151, 35)?;
+    image_of(rt, 127, 35)?;
+    image_of(rt, 0, 35)?;
+    image_of(rt, 160, 36)?;
+    image_of(rt, 189, 35)?;
+    other_images(rt)
 }
 
 // Another name in its place, entries cut off, and its name twice.
-fn other_images() {
+fn other_images(rt: &impl Print) -> io::Result<()> {
     let mut other = directory(44, 160, 35);
-    text(b"In 67 bytes");
-    judged_to(&other, 67);
+    text(rt, b"In 67 bytes")?;
+    judged_to(rt, &other, 67)?;
     put_huc(&mut other, 20, 112, 160);
-    text(b"huc_fw twice");
-    judged_to(&other, 300);
+    text(rt, b"huc_fw twice")?;
+    judged_to(rt, &other, 300)?;
     put_manifest(&mut other, 20, 68, 44);
     stage::put_entry(&mut other, 44, b"huc_fwx", 112, 160);
-    text(b"huc_fwx instead");
-    judged_to(&other, 300);
+    text(rt, b"huc_fwx instead")?;
+    judged_to(rt, &other, 300)
 }

@@ -8,29 +8,32 @@ mod names;
 mod wording;
 
 // The scenes, each on blobs of its own.
-fn main() {
-    foreword();
-    images::by_length();
-    images::smallest();
-    images::sizes_disagree();
-    directories::entries();
-    directories::parts();
-    names::found_or_not();
-    names::alike_or_twice();
-    names::refused();
-    inside::manifests();
-    inside::accepted_images();
-    inside::refused_images();
+use std::io;
+
+fn main(rt: HostRuntime) -> io::Result<()> {
+    foreword(&rt)?;
+    images::by_length(&rt)?;
+    images::smallest(&rt)?;
+    images::sizes_disagree(&rt)?;
+    directories::entries(&rt)?;
+    directories::parts(&rt)?;
+    names::found_or_not(&rt)?;
+    names::alike_or_twice(&rt)?;
+    names::refused(&rt)?;
+    inside::manifests(&rt)?;
+    inside::accepted_images(&rt)?;
+    inside::refused_images(&rt)
 }
 
 // What a reader of the lines has to know.
-fn foreword() {
+fn foreword(rt: &impl Print) -> io::Result<()> {
     say::text(
+        rt,
         b"A firmware file is a CSS image, or a code partition directory (CPD) with named\n\
           parts. An image has a header of 128 bytes, then uCode, RSA, modulus and\n\
           exponent. Its header gives sizes in dwords, of 4 bytes: h all that is not\n\
           uCode, s all, k RSA, m modulus, e exponent.\n\
           A part runs from its start up to its end, which is excluded. Where there is no\n\
           part, the empty one at byte 0 is answered.\n",
-    );
+    )
 }

@@ -1,14 +1,15 @@
 // Where the part of a name lies.
 use firmware::Located;
 use say::text;
+use std::io;
 
 // Where a part lies, or that there is none, and what was answered.
-pub(crate) fn sought(l: Located) {
+pub(crate) fn sought(rt: &impl Print, l: Located) -> io::Result<()> {
     if (l.start == 0) & (l.len == 0) {
-        text(b", no part");
+        text(rt, b", no part")?;
     } else {
-        text(b", part ");
-        say::part(l);
+        text(rt, b", part ")?;
+        say::part(rt, l)?;
     }
-    say::answered(l.code);
+    say::answered(rt, l.code)
 }
