@@ -2,33 +2,39 @@
 use crate::options::Expected;
 use crate::{image, kinds, sharing, verdicts, versions};
 use firmware::{Version, refusal};
+use std::io;
 
 // So many entries are named; of more it is said how many there are.
 const NAMED_MOST: usize = 64;
 
 // A file with the marker $CPD: the directory, its manifest, the image in huc_fw and all its entries, in this order. What
 // is only not judged comes last, since what a rule refuses is not to be kept.
-pub(crate) fn verdict(blob: &[u8], which: usize, expect: Expected) -> u32 {
+pub(crate) fn verdict(
+    rt: &impl Print,
+    blob: &[u8],
+    which: usize,
+    expect: Expected,
+) -> io::Result<u32> {
     let d = firmware::cpd_directory(blob);
     if d.code != 0 {
-        return verdicts::refused(d.code);
+        return verdicts::refused(rt, d.code);
     }
     let m = firmware::manifest_figures(blob);
     if m.code != 0 {
-        return verdicts::refused_part(b"HUCP.man: ", m.code);
+        return verdicts::refused_part(rt, b"HUCP.man: ", m.code);
     }
     let f = firmware::huc_figures(blob);
     let kind = kind_of(blob, f);
     if (kind == kinds::FIRMWARE) & (f.code != 0) {
-        return verdicts::refused_part(b"huc_fw: ", f.code);
+        return verdicts::refused_part(rt, b"huc_fw: ", f.code);
     }
     if refused_entries(blob, 0, d.count) != 0 {
-        return verdicts::refused(refusal::CPD_BEYOND);
+        return verdicts::refused(rt, refusal::CPD_BEYOND);
     }
     if kind != kinds::FIRMWARE {
-        return kinds::named(kind);
+        return kinds::named(rt, kind);
     }
-    good(blob, which, expect)
+    good(rt, blob, which, expect)
 }
 
 // What the rules have no case for: no huc_fw, which only two-step loading wants, and an image in two parts.
@@ -70,116 +76,125 @@ fn header_apart(blob: &[u8]) -> bool {
 
 // Of the entries from one on, how many are refused; a count of entries does not wrap.
 fn refused_entries(blob: &[u8], from: usize, count: usize) -> usize {
-    let mut refused = 0;
+    let mut refused = 0usize;
     for i in from..count {
         let l = firmware::cpd_entry(blob, i);
         if l.code != 0 {
-            refused = std::num::wrapping_add_usize(refused, 1);
+            refused = refused.wrapping_add(1);
         }
     }
     refused
 }
 
 // A directory that no rule refuses, of the version that is expected and under a name that fits, or not.
-fn good(blob: &[u8], which: usize, expect: Expected) -> u32 {
+fn good(rt: &impl Print, blob: &[u8], which: usize, expect: Expected) -> io::Result<u32> {
     let v = firmware::manifest_version(blob);
     let numbers = versions::of_manifest(v);
     let met = versions::meets(numbers, 4, expect);
     let misnamed = which == image::NAMED_GUC;
-    verdicts::start(if met & !misnamed {
-        verdicts::GOOD
-    } else {
-        verdicts::NOT_GOOD
-    });
-    say::text(b"HuC ");
-    say::manifest_version(v);
+    verdicts::start(
+        rt,
+        if met & !misnamed {
+            verdicts::GOOD
+        } else {
+            verdicts::NOT_GOOD
+        },
+    )?;
+    say::text(rt, b"HuC ")?;
+    say::manifest_version(rt, v)?;
     if misnamed {
-        say::text(b", but the file's name says GuC\n");
-        return verdicts::NOT_GOOD;
+        say::text(rt, b", but the file's name says GuC\n")?;
+        return Ok(verdicts::NOT_GOOD);
     }
     if !met {
-        versions::unexpected(expect);
-        return verdicts::NOT_GOOD;
+        versions::unexpected(rt, expect)?;
+        return Ok(verdicts::NOT_GOOD);
     }
-    other_version(numbers, firmware::huc_version(blob));
-    image::left_out(firmware::huc_figures(blob));
-    verdicts::GOOD
+    other_version(rt, numbers, firmware::huc_version(blob))?;
+    image::left_out(rt, firmware::huc_figures(blob))?;
+    Ok(verdicts::GOOD)
 }
 
 // The image's own version, where the manifest says another.
-fn other_version(numbers: [u64; 4], v: Version) {
+fn other_version(rt: &impl Print, numbers: [u64; 4], v: Version) -> io::Result<()> {
     if !versions::three_same(numbers, versions::of_image(v)) {
-        say::text(b", its image ");
-        say::image_version(v);
+        say::text(rt, b", its image ")?;
+        say::image_version(rt, v)?;
     }
+    Ok(())
 }
 
 // The figures of a directory.
-pub(crate) fn figures(blob: &[u8]) {
+pub(crate) fn figures(rt: &impl Print, blob: &[u8]) -> io::Result<()> {
     let d = firmware::cpd_directory(blob);
     if d.code == 0 {
         say::two(
+            rt,
             b"  % bytes of a code partition directory, entries: %\n",
             blob.len() as u64,
             d.count as u64,
-        );
-        entries(blob, d.count);
-        manifest(blob);
-        image(blob);
+        )?;
+        entries(rt, blob, d.count)?;
+        manifest(rt, blob)?;
+        image(rt, blob)?;
     } else {
-        verdicts::shortage(firmware::cpd_figures(blob));
+        verdicts::shortage(rt, firmware::cpd_figures(blob))?;
     }
+    Ok(())
 }
 
 // The first entries, a line each, and how many more there are.
-fn entries(blob: &[u8], count: usize) {
+fn entries(rt: &impl Print, blob: &[u8], count: usize) -> io::Result<()> {
     for i in 0..NAMED_MOST {
         if i < count {
-            entry(blob, i);
+            entry(rt, blob, i)?;
         }
     }
     if NAMED_MOST < count {
         say::two(
+            rt,
             b"  and % entries more, of them refused: %\n",
             (count - NAMED_MOST) as u64,
             refused_entries(blob, NAMED_MOST, count) as u64,
-        );
-        first_refused(blob, NAMED_MOST, count);
+        )?;
+        first_refused(rt, blob, NAMED_MOST, count)?;
     }
+    Ok(())
 }
 
 // Of the entries from one on, the first that is refused.
-fn first_refused(blob: &[u8], from: usize, count: usize) {
+fn first_refused(rt: &impl Print, blob: &[u8], from: usize, count: usize) -> io::Result<()> {
     for i in from..count {
         let l = firmware::cpd_entry(blob, i);
         if l.code != 0 {
-            entry(blob, i);
-            return;
+            return entry(rt, blob, i);
         }
     }
+    Ok(())
 }
 
 // An entry's name, and its part or why it has none. Each line is that entry's own, also where a seek of its name is
 // refused, for another entry has it too.
-fn entry(blob: &[u8], i: usize) {
-    say::one(b"  entry %, ", i as u64);
-    say::quoted(trimmed(firmware::cpd_name(blob, i)));
+fn entry(rt: &impl Print, blob: &[u8], i: usize) -> io::Result<()> {
+    say::one(rt, b"  entry %, ", i as u64)?;
+    say::quoted(rt, trimmed(firmware::cpd_name(blob, i)))?;
     let l = firmware::cpd_entry(blob, i);
     if l.code == 0 {
-        say::text(b": ");
-        say::part(l);
-        say::end();
+        say::text(rt, b": ")?;
+        say::part(rt, l)?;
+        say::end(rt)?;
     } else {
-        refusal(firmware::cpd_entry_figures(blob, i));
+        refusal(rt, firmware::cpd_entry_figures(blob, i))?;
     }
+    Ok(())
 }
 
 // A number with its sentence to the end of the line, and its figures.
-fn refusal(f: firmware::Figures) {
-    say::text(b": ");
-    say::number(f.code);
-    say::end();
-    verdicts::shortage(f);
+fn refusal(rt: &impl Print, f: firmware::Figures) -> io::Result<()> {
+    say::text(rt, b": ")?;
+    say::number(rt, f.code)?;
+    say::end(rt)?;
+    verdicts::shortage(rt, f)
 }
 
 // A name without its zero padding.
@@ -190,41 +205,42 @@ fn trimmed(name: &[u8]) -> &[u8] {
 
 // How many bytes a name has ahead of its zero padding.
 fn name_length(name: &[u8]) -> usize {
-    let mut n = name.len();
-    while 0 < n {
-        if name[n - 1] != 0 {
-            return n;
+    let mut n = 0;
+    for i in 0..name.len() {
+        if name[i] != 0 {
+            n = i + 1;
         }
-        n -= 1;
     }
-    0
+    n
 }
 
 // The manifest's firmware version, or why there is none.
-fn manifest(blob: &[u8]) {
-    say::text(b"  manifest HUCP.man");
+fn manifest(rt: &impl Print, blob: &[u8]) -> io::Result<()> {
+    say::text(rt, b"  manifest HUCP.man")?;
     let f = firmware::manifest_figures(blob);
     if f.code == 0 {
-        say::text(b": version ");
-        say::manifest_version(firmware::manifest_version(blob));
-        say::end();
+        say::text(rt, b": version ")?;
+        say::manifest_version(rt, firmware::manifest_version(blob))?;
+        say::end(rt)?;
     } else {
-        refusal(f);
-        sharing::shared(f.code, blob, b"HUCP.man");
+        refusal(rt, f)?;
+        sharing::shared(rt, f.code, blob, b"HUCP.man")?;
     }
+    Ok(())
 }
 
 // The image in huc_fw, which is judged as a blob of its own, with where its parts lie in the file.
-fn image(blob: &[u8]) {
-    say::text(b"  image huc_fw");
+fn image(rt: &impl Print, blob: &[u8]) -> io::Result<()> {
+    say::text(rt, b"  image huc_fw")?;
     let f = firmware::huc_figures(blob);
     if f.code == 0 {
-        say::text(b": version ");
-        say::image_version(firmware::huc_version(blob));
-        image::left_out(f);
-        say::inner_parts(blob);
+        say::text(rt, b": version ")?;
+        say::image_version(rt, firmware::huc_version(blob))?;
+        image::left_out(rt, f)?;
+        say::inner_parts(rt, blob)?;
     } else {
-        refusal(f);
-        sharing::shared(f.code, blob, b"huc_fw");
+        refusal(rt, f)?;
+        sharing::shared(rt, f.code, blob, b"huc_fw")?;
     }
+    Ok(())
 }

@@ -2,6 +2,7 @@
 // accepts is never taken for one of these.
 use crate::verdicts;
 use say::starts;
+use std::io;
 
 // The lines of `named`.
 const XZ: usize = 0;
@@ -30,9 +31,10 @@ pub(crate) const NO_IMAGE: usize = 10;
 pub(crate) const FIRMWARE: usize = 11;
 
 // What a file of that kind is.
-pub(crate) fn named(kind: usize) -> u32 {
-    verdicts::start(verdicts::NOT_JUDGED);
+pub(crate) fn named(rt: &impl Print, kind: usize) -> io::Result<u32> {
+    verdicts::start(rt, verdicts::NOT_JUDGED)?;
     say::line(
+        rt,
         b"compressed by xz: unpack it first (xz -dk FILE)\n\
           compressed by zstd: unpack it first (zstd -d FILE)\n\
           compressed by gzip: unpack it first (gzip -dk FILE)\n\
@@ -45,9 +47,9 @@ pub(crate) fn named(kind: usize) -> u32 {
           a HuC directory with the CSS header apart, in HuC_CSS: ask the office, the rules have no case for it\n\
           a HuC directory without huc_fw: only for boxes that do not load in two steps, ask the office\n",
         kind,
-    );
-    say::end();
-    verdicts::NOT_JUDGED
+    )?;
+    say::end(rt)?;
+    Ok(verdicts::NOT_JUDGED)
 }
 
 // Whether it starts with the dword 6, as images of GuC and HuC do (Linux: the CSS module type). No rule reads it.

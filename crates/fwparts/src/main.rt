@@ -14,91 +14,100 @@ mod verdicts;
 mod versions;
 
 use options::Options;
+use std::io;
+use std::io::{ErrorKind, Read};
+use std::rt::{Env, Files};
 use tally::Tally;
 
 // What the bytes of a file are. The marker $CPD makes a file a directory, good or not.
-fn report(blob: &[u8], which: usize, o: Options) -> u32 {
+fn report(rt: &impl Print, blob: &[u8], which: usize, o: Options) -> io::Result<u32> {
     if firmware::cpd_marker(blob) {
-        let class = directory::verdict(blob, which, o.expect);
+        let class = directory::verdict(rt, blob, which, o.expect)?;
         if o.figures {
-            directory::figures(blob);
+            directory::figures(rt, blob)?;
         }
-        class
+        Ok(class)
     } else {
-        let class = image::verdict(blob, which, o.expect);
+        let class = image::verdict(rt, blob, which, o.expect)?;
         if o.figures {
-            image::figures(blob, class);
+            image::figures(rt, blob, class)?;
         }
-        class
+        Ok(class)
     }
 }
 
 // The verdict on the bytes of a file, and then a part of those bytes, where one is asked for and the file is good.
-fn judge(blob: &[u8], which: usize, o: Options) -> u32 {
-    let class = report(blob, which, o);
+fn judge(
+    rt: &(impl Print + Files + Env),
+    blob: &[u8],
+    which: usize,
+    o: Options,
+) -> io::Result<u32> {
+    let class = report(rt, blob, which, o)?;
     if o.part_at == 0 {
-        return class;
+        return Ok(class);
     }
     if class == verdicts::GOOD {
-        return output::part(blob, o.part_at, o.out_at);
+        return output::part(rt, blob, o.part_at, o.out_at);
     }
-    say::text(b"  nothing written: only of a file that is good\n");
-    class
+    say::text(rt, b"  nothing written: only of a file that is good\n")?;
+    Ok(class)
 }
 
-// Reads an open file into the room lent, and judges what was read.
-fn read_and_judge(fd: i32, room: &mut [u8], which: usize, o: Options) -> u32 {
-    let n = io::read_full(fd, room);
-    if reading::ended(fd, n, room.len()) {
-        judge(&room[..n], which, o)
+// Reads an open file into room of its own, and judges what was read.
+fn opened(
+    rt: &(impl Print + Files + Env + AllocGlobal),
+    file: &mut impl Read,
+    which: usize,
+    o: Options,
+) -> io::Result<u32> {
+    let mut room = reading::room(rt.alloc())?;
+    if reading::whole(rt, file, &mut room)? {
+        judge(rt, room.as_slice(), which, o)
     } else {
-        verdicts::NOT_READ
+        Ok(verdicts::NOT_READ)
     }
-}
-
-// An open file, read into room of its own.
-fn opened(fd: i32, which: usize, o: Options) -> u32 {
-    let mut room = reading::room();
-    let class = read_and_judge(fd, &mut room, which, o);
-    libc::close(fd);
-    class
 }
 
 // The file that argument i names.
-fn file(i: usize, o: Options) -> u32 {
-    let mut path = io::buffer();
-    let n = os::arg(i, &mut path);
-    if os::errno() != 0 {
-        return reading::unread(libc::ENAMETOOLONG);
-    }
+fn file(rt: &(impl Print + Files + Env + AllocGlobal), i: usize, o: Options) -> io::Result<u32> {
+    let mut room = options::room();
+    let Ok(n) = rt.arg(i, &mut room) else {
+        return reading::unread(rt, ErrorKind::InvalidFilename);
+    };
+    let path = &room[..n];
     if o.several {
-        reading::name(&path[..n]);
+        reading::name(rt, path)?;
     }
-    let fd = os::open_read(&path[..n]);
-    if fd < 0 {
-        return reading::unread(os::errno());
+    match reading::open(rt, path) {
+        Ok(mut file) => opened(rt, &mut file, image::firmware_named(path), o),
+        Err(e) => reading::unread(rt, e.kind()),
     }
-    opened(fd, image::firmware_named(&path[..n]), o)
 }
 
 // Every file, from the argument behind the options on.
-fn files(o: Options, count: usize) -> Tally {
+fn files(
+    rt: &(impl Print + Files + Env + AllocGlobal),
+    o: Options,
+    count: usize,
+) -> io::Result<Tally> {
     let mut t = tally::none();
     for i in o.at..count {
-        let class = file(i, o);
+        let class = file(rt, i, o)?;
         t = t.with(class);
     }
-    t
+    Ok(t)
 }
 
-fn main() {
-    let o = options::read();
+fn main(rt: HostRuntime) -> io::Result<()> {
+    let o = options::read(&rt);
     if o.wrong {
         say::complaint(
-            b"usage: fwparts [--figures] [--expect VERSION] [--part NAME --out FILE] FILE..\n",
+            &rt,
+            "usage: fwparts [--figures] [--expect VERSION] [--part NAME --out FILE] FILE..\n",
         );
-        say::text(b"fwparts: wrong usage\n");
-        return;
+        return say::text(&rt, b"fwparts: wrong usage\n");
     }
-    tally::last_line(files(o, os::arg_count()));
+    let all = files(&rt, o, options::count(&rt))?;
+    tally::last_line(&rt, all)
 }

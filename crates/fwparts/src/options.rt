@@ -1,8 +1,12 @@
 // The options in front of the files.
+ghost use Rattle.std.specs.Prelude.{◌≡◌, length};
+
 use say::equal;
+use std::env::FillError;
+use std::rt::Env;
 
 // A version that is expected: how many of its numbers are given, none where no version is, and the numbers.
-#[derive(Drop)]
+#[derive(Clone, Copy)]
 pub(crate) struct Expected {
     pub given: usize,
     pub numbers: [u64; 4],
@@ -10,7 +14,7 @@ pub(crate) struct Expected {
 
 // What is asked. `at` is the argument behind the options, and `ended` whether `--` stands before it; `part_at`
 // and `out_at` are the arguments with the part's name and the new file's, 0 where none is asked.
-#[derive(Drop)]
+#[derive(Clone, Copy)]
 pub(crate) struct Options {
     pub at: usize,
     pub ended: bool,
@@ -74,11 +78,34 @@ fn version(s: &[u8]) -> Expected {
     }
 }
 
+// Room for a word. A longer one is no option, no value of one, and no name that the system takes.
+pub(crate) fn room() -> [u8; 4096]
+    ensures { length result ≡ 4096 }
+{
+    [0u8; 4096]
+}
+
+// The bytes of argument i, which need not be text; none where there is no such argument, or it is longer than the room.
+pub(crate) fn word<'a>(rt: &impl Env, i: usize, room: &'a mut [u8]) -> &'a [u8] {
+    match rt.arg(i, room) {
+        Ok(n) => &room[..n],
+        Err(_) => &room[..0],
+    }
+}
+
+// How many arguments there are, the program's own name among them.
+pub(crate) fn count(rt: &impl Env) -> usize {
+    for i in 1..usize::MAX {
+        if let Err(FillError::NotPresent) = rt.arg(i, &mut []) {
+            return i;
+        }
+    }
+    usize::MAX
+}
+
 // Argument i as a version.
-fn version_argument(i: usize) -> Expected {
-    let mut word = io::buffer();
-    let n = os::arg(i, &mut word);
-    version(&word[..n])
+fn version_argument(rt: &impl Env, i: usize) -> Expected {
+    version(word(rt, i, &mut room()))
 }
 
 // The options.
@@ -116,17 +143,15 @@ fn option_of(word: &[u8]) -> u32 {
 }
 
 // Which option argument i is.
-fn option_argument(i: usize) -> u32 {
-    let mut word = io::buffer();
-    let n = os::arg(i, &mut word);
-    option_of(&word[..n])
+fn option_argument(rt: &impl Env, i: usize) -> u32 {
+    option_of(word(rt, i, &mut room()))
 }
 
 // With the option in argument `at`, whose value is the argument behind it. One that is given twice is wrong.
-fn with_option(o: Options, option: u32) -> Options {
-    let value = std::num::wrapping_add_usize(o.at, 1);
+fn with_option(rt: &impl Env, o: Options, option: u32) -> Options {
+    let value = o.at.wrapping_add(1);
     let mut next = o;
-    next.at = std::num::wrapping_add_usize(o.at, 2);
+    next.at = o.at.wrapping_add(2);
     match option {
         FIGURES => {
             next.wrong = o.figures;
@@ -135,7 +160,7 @@ fn with_option(o: Options, option: u32) -> Options {
         }
         EXPECT => {
             let before = o.expect;
-            let expect = version_argument(value);
+            let expect = version_argument(rt, value);
             next.wrong = (before.given != 0) | (expect.given < 3) | (4 < expect.given);
             next.expect = expect;
         }
@@ -157,14 +182,14 @@ fn with_option(o: Options, option: u32) -> Options {
 }
 
 // Up to the first file; each option stands at most once.
-fn all_options(o: Options) -> Options {
+fn all_options(rt: &impl Env, o: Options) -> Options {
     let mut next = o;
-    for k in 0usize..8 {
-        let option = option_argument(next.at);
+    for _ in 0..8 {
+        let option = option_argument(rt, next.at);
         if option == NONE {
             return next;
         }
-        next = with_option(next, option);
+        next = with_option(rt, next, option);
         if next.ended | next.wrong {
             return next;
         }
@@ -174,9 +199,9 @@ fn all_options(o: Options) -> Options {
 }
 
 // Whether an option stands among the files.
-fn option_behind(from: usize, count: usize) -> bool {
+fn option_behind(rt: &impl Env, from: usize, count: usize) -> bool {
     for i in from..count {
-        if option_argument(i) != NONE {
+        if option_argument(rt, i) != NONE {
             return true;
         }
     }
@@ -203,16 +228,16 @@ fn nothing_asked() -> Options {
 // The options of this run. Figures are shown of a single file, and of several where they are asked for; a part is of one
 // file. What starts with a dash is no file, unless `--` stands before the files: else an option behind a file would be
 // passed over.
-pub(crate) fn read() -> Options {
-    let count = os::arg_count();
-    let mut o = all_options(nothing_asked());
+pub(crate) fn read(rt: &impl Env) -> Options {
+    let count = count(rt);
+    let mut o = all_options(rt, nothing_asked());
     let files = if o.at < count { count - o.at } else { 0 };
     let half = (o.part_at == 0) != (o.out_at == 0);
     let many = (o.part_at != 0) & (files != 1);
     let mixed = if o.ended {
         false
     } else {
-        option_behind(o.at, count)
+        option_behind(rt, o.at, count)
     };
     o.several = 1 < files;
     if files == 1 {

@@ -1,7 +1,11 @@
 // A part written to a new file: of the very bytes that were judged good in this run.
-use crate::{reading, verdicts};
+use crate::{options, reading, verdicts};
 use firmware::Component;
 use say::equal;
+use std::fs::{OpenFile, OpenOptions};
+use std::io::Write;
+use std::rt::{Env, Files};
+use std::{fs, io};
 
 // What a part is: a component of the image by its rank, or an entry.
 const ENTRY: usize = 4;
@@ -9,34 +13,42 @@ const ENTRY: usize = 4;
 const NO_COMPONENT: usize = 5;
 
 // Writes the part that argument `name` names to the new file that argument `out` names.
-pub(crate) fn part(blob: &[u8], name: usize, out: usize) -> u32 {
-    let mut word = io::buffer();
-    let n = os::arg(name, &mut word);
-    part_named(blob, &word[..n], out)
+pub(crate) fn part(
+    rt: &(impl Print + Files + Env),
+    blob: &[u8],
+    name: usize,
+    out: usize,
+) -> io::Result<u32> {
+    part_named(rt, blob, options::word(rt, name, &mut options::room()), out)
 }
 
 // The part of that name: an entry of a directory, or a component of the image, also of the one in a directory.
-fn part_named(blob: &[u8], name: &[u8], out: usize) -> u32 {
+fn part_named(
+    rt: &(impl Print + Files + Env),
+    blob: &[u8],
+    name: &[u8],
+    out: usize,
+) -> io::Result<u32> {
     if firmware::cpd_marker(blob) {
         let l = firmware::cpd_located(blob, name);
         if l.code == 0 {
-            return written(firmware::cpd_part(blob, name), ENTRY, name, out);
+            return written(rt, firmware::cpd_part(blob, name), ENTRY, name, out);
         }
         if l.code == firmware::refusal::DUPLICATE_ENTRY {
-            return refused(l.code, name);
+            return refused(rt, l.code, name);
         }
-        return component(blob, name, out);
+        return component(rt, blob, name, out);
     }
-    component(blob, name, out)
+    component(rt, blob, name, out)
 }
 
 // An entry's name that is refused.
-fn refused(code: u32, name: &[u8]) -> u32 {
-    say::text(b"  not written: ");
-    reading::name(name);
-    say::number(code);
-    say::end();
-    verdicts::NOT_WRITTEN
+fn refused(rt: &impl Print, code: u32, name: &[u8]) -> io::Result<u32> {
+    say::text(rt, b"  not written: ")?;
+    reading::name(rt, name)?;
+    say::number(rt, code)?;
+    say::end(rt)?;
+    Ok(verdicts::NOT_WRITTEN)
 }
 
 // Which component has that name.
@@ -55,18 +67,23 @@ fn component_named(name: &[u8]) -> usize {
 }
 
 // A component of the image.
-fn component(blob: &[u8], name: &[u8], out: usize) -> u32 {
+fn component(
+    rt: &(impl Print + Files + Env),
+    blob: &[u8],
+    name: &[u8],
+    out: usize,
+) -> io::Result<u32> {
     let which = component_named(name);
     match which {
-        0 => written(bytes(blob, Component::Ucode), which, name, out),
-        1 => written(bytes(blob, Component::Rsa), which, name, out),
-        2 => written(bytes(blob, Component::Modulus), which, name, out),
-        3 => written(bytes(blob, Component::Exponent), which, name, out),
+        0 => written(rt, bytes(blob, Component::Ucode), which, name, out),
+        1 => written(rt, bytes(blob, Component::Rsa), which, name, out),
+        2 => written(rt, bytes(blob, Component::Modulus), which, name, out),
+        3 => written(rt, bytes(blob, Component::Exponent), which, name, out),
         _ => {
-            say::text(b"  not written: no part has the name ");
-            say::quoted(name);
-            say::end();
-            verdicts::NOT_WRITTEN
+            say::text(rt, b"  not written: no part has the name ")?;
+            say::quoted(rt, name)?;
+            say::end(rt)?;
+            Ok(verdicts::NOT_WRITTEN)
         }
     }
 }
@@ -80,53 +97,61 @@ fn bytes(blob: &[u8], which: Component) -> &[u8] {
 }
 
 // What a part is, in words.
-fn described(which: usize, name: &[u8]) {
-    say::line(b"uCode\nRSA\nmodulus\nexponent\nentry \n", which);
+fn described(rt: &impl Print, which: usize, name: &[u8]) -> io::Result<()> {
+    say::line(rt, b"uCode\nRSA\nmodulus\nexponent\nentry \n", which)?;
     if which == ENTRY {
-        say::quoted(name);
+        say::quoted(rt, name)?;
     }
+    Ok(())
 }
 
 // Writes the bytes of a part to the file that argument `out` names.
-fn written(bytes: &[u8], which: usize, name: &[u8], out: usize) -> u32 {
-    if bytes.len() == 0 {
-        say::text(b"  not written: nothing is in the file of ");
-        described(which, name);
-        say::end();
-        return verdicts::NOT_WRITTEN;
+fn written(
+    rt: &(impl Print + Files + Env),
+    bytes: &[u8],
+    which: usize,
+    name: &[u8],
+    out: usize,
+) -> io::Result<u32> {
+    if bytes.is_empty() {
+        say::text(rt, b"  not written: nothing is in the file of ")?;
+        described(rt, which, name)?;
+        say::end(rt)?;
+        return Ok(verdicts::NOT_WRITTEN);
     }
-    let mut path = io::buffer();
-    let n = os::arg(out, &mut path);
-    let error = stored(bytes, &path[..n]);
-    if error != 0 {
-        say::text(b"  not written, to ");
-        reading::name(&path[..n]);
-        say::reason(error);
-        return verdicts::NOT_WRITTEN;
+    let mut room = options::room();
+    let path = options::word(rt, out, &mut room);
+    if let Err(e) = stored(rt, bytes, path) {
+        say::text(rt, b"  not written, to ")?;
+        reading::name(rt, path)?;
+        say::reason(rt, e.kind())?;
+        return Ok(verdicts::NOT_WRITTEN);
     }
-    say::one(b"  written: % bytes of ", bytes.len() as u64);
-    described(which, name);
-    say::text(b", to ");
-    say::quoted(&path[..n]);
-    say::end();
-    verdicts::GOOD
+    say::one(rt, b"  written: % bytes of ", bytes.len() as u64)?;
+    described(rt, which, name)?;
+    say::text(rt, b", to ")?;
+    say::quoted(rt, path)?;
+    say::end(rt)?;
+    Ok(verdicts::GOOD)
 }
 
-// Stores the bytes in a file that is new, and answers 0 or the system's number: one that is there is never overwritten,
-// and one that is not written whole is removed.
-fn stored(bytes: &[u8], path: &[u8]) -> i32 {
-    let fd = os::create(path);
-    if fd < 0 {
-        return os::errno();
+// Stores the bytes in a file that is new: one that is there is never overwritten, and one that is not written whole is
+// removed.
+fn stored(rt: &impl Files, bytes: &[u8], name: &[u8]) -> io::Result<()> {
+    let path = reading::path(name)?;
+    let mut file = OpenOptions::new()
+        .write(true)
+        .create_new(true)
+        .open(rt, path)?;
+    let written = put(&mut file, bytes);
+    if written.is_err() {
+        let _ = fs::remove_file(rt, path);
     }
-    let written = io::write_all(fd, bytes);
-    let mut error = if written { 0 } else { os::errno() };
-    let closed = libc::close(fd);
-    if (closed < 0) & (error == 0) {
-        error = os::errno();
-    }
-    if error != 0 {
-        os::unlink(path);
-    }
-    error
+    written
+}
+
+// Writes all of it. What the system tells only when a file is closed, which std does not pass on, it tells here.
+fn put(file: &mut (impl Write + OpenFile), bytes: &[u8]) -> io::Result<()> {
+    file.write_all(bytes)?;
+    file.sync_all()
 }

@@ -1,40 +1,72 @@
 // Reading a file whole, or saying why not.
 use crate::verdicts;
+use std::alloc::Global;
+use std::fs::File;
+use std::io;
+use std::io::{ErrorKind, Read};
+use std::rt::Files;
 
-// Room for the longest file that is read: 4 MiB, of a stack of 8.
-pub(crate) fn room() -> [u8; 4194304] {
-    [0u8; 4194304]
+// The longest file that is read: 4 MiB.
+const MOST: usize = 4194304;
+
+// A name as std takes it, which opens files by names in UTF-8 alone.
+pub(crate) fn path(name: &[u8]) -> io::Result<&str> {
+    match str::from_utf8(name) {
+        Ok(text) => Ok(text),
+        Err(_) => Err(io::Error::from(ErrorKind::InvalidData)),
+    }
 }
 
-// Whether an open file ends after n bytes of as much room; where not, says why it was not read whole.
-pub(crate) fn ended(fd: i32, n: usize, room: usize) -> bool {
+// Opens the file of that name.
+pub(crate) fn open<R: Files>(rt: &R, name: &[u8]) -> io::Result<R::File> {
+    File::open(rt, path(name)?)
+}
+
+// Room for the longest file that is read.
+pub(crate) fn room(alloc: Global) -> io::Result<Vec<u8>> {
+    Ok(Vec::with_capacity(alloc, MOST)?)
+}
+
+// Reads an open file into the room. Answers whether it is all there; where not, says why it was not read whole.
+pub(crate) fn whole(rt: &impl Print, file: &mut impl Read, room: &mut Vec<u8>) -> io::Result<bool> {
     let mut next = [0u8; 1];
-    let got = libc::read(fd, &mut next);
-    if got == 0 {
-        return true;
-    }
-    if got < 0 {
-        unread(os::errno());
-        return false;
-    }
-    verdicts::start(verdicts::NOT_READ);
-    if n < room {
-        say::text(b"not to its end, try again\n");
-    } else {
-        say::one(b"longer than % bytes, the most that is read\n", room as u64);
-    }
-    false
+    let read = io::copy(&mut file.take(MOST as u64), room);
+    let more = match read {
+        Ok(_) => file.read(&mut next),
+        Err(e) => Err(e),
+    };
+    match more {
+        Ok(0) => return Ok(true),
+        Ok(_) => rest(rt, room.len())?,
+        Err(e) => unread(rt, e.kind())?,
+    };
+    Ok(false)
 }
 
-// A file that cannot be opened or read, by the system's number.
-pub(crate) fn unread(error: i32) -> u32 {
-    verdicts::start(verdicts::NOT_READ);
-    say::reason(error);
-    verdicts::NOT_READ
+// A file that does not end behind the n bytes that were read.
+fn rest(rt: &impl Print, n: usize) -> io::Result<u32> {
+    verdicts::start(rt, verdicts::NOT_READ)?;
+    if n < MOST {
+        say::text(rt, b"not to its end, try again\n")?;
+    } else {
+        say::one(
+            rt,
+            b"longer than % bytes, the most that is read\n",
+            MOST as u64,
+        )?;
+    }
+    Ok(verdicts::NOT_READ)
+}
+
+// A file that cannot be opened or read, by the system's error.
+pub(crate) fn unread(rt: &impl Print, error: ErrorKind) -> io::Result<u32> {
+    verdicts::start(rt, verdicts::NOT_READ)?;
+    say::reason(rt, error)?;
+    Ok(verdicts::NOT_READ)
 }
 
 // A file's name ahead of what is said of it.
-pub(crate) fn name(path: &[u8]) {
-    say::quoted(path);
-    say::text(b": ");
+pub(crate) fn name(rt: &impl Print, path: &[u8]) -> io::Result<()> {
+    say::quoted(rt, path)?;
+    say::text(rt, b": ")
 }

@@ -1,5 +1,6 @@
 // How many files of each class there were, and the last line that says so.
 use crate::verdicts;
+use std::io;
 
 #[derive(Clone, Copy)]
 pub(crate) struct Tally {
@@ -22,7 +23,7 @@ pub(crate) fn none() -> Tally {
 
 // One more; a count of arguments does not wrap.
 fn more(n: u64) -> u64 {
-    std::num::wrapping_add_u64(n, 1)
+    n.wrapping_add(1)
 }
 
 impl Tally {
@@ -41,16 +42,18 @@ impl Tally {
 }
 
 // The last line, which the script takes its exit status from.
-pub(crate) fn last_line(t: Tally) {
+pub(crate) fn last_line(rt: &impl Print, t: Tally) -> io::Result<()> {
     if t.not_written {
-        say::text(b"fwparts: not written\n");
+        say::text(rt, b"fwparts: not written\n")?;
     } else {
         say::four(
+            rt,
             b"fwparts: % good, % not good, % not judged, % not read\n",
             t.good,
             t.not_good,
             t.not_judged,
             t.not_read,
-        );
+        )?;
     }
+    Ok(())
 }

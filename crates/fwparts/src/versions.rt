@@ -1,6 +1,7 @@
 // Versions as numbers: whether one is what is expected, and whether two differ.
 use crate::options::Expected;
 use firmware::{ManifestVersion, Version};
+use std::io;
 
 // An image's three numbers, with 0 behind them; all 0 where it has none.
 pub(crate) fn of_image(v: Version) -> [u64; 4] {
@@ -41,11 +42,12 @@ pub(crate) fn meets(numbers: [u64; 4], count: usize, expect: Expected) -> bool {
 }
 
 // The version that was expected instead; ends the line.
-pub(crate) fn unexpected(expect: Expected) {
+pub(crate) fn unexpected(rt: &impl Print, expect: Expected) -> io::Result<()> {
     let n = expect.numbers;
     if expect.given == 4 {
-        say::four(b", expected %.%.%.%\n", n[0], n[1], n[2], n[3]);
+        say::four(rt, b", expected %.%.%.%\n", n[0], n[1], n[2], n[3])?;
     } else {
-        say::four(b", expected %.%.%\n", n[0], n[1], n[2], 0);
+        say::four(rt, b", expected %.%.%\n", n[0], n[1], n[2], 0)?;
     }
+    Ok(())
 }

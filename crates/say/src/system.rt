@@ -5,7 +5,7 @@ use std::io;
 use std::io::ErrorKind;
 
 // What it means; ends the line. In the line that it belongs to, and not on standard error, which a terminal would show
-// between the pieces of another.
+// between the pieces of another. InvalidData stands for a name that is not text, which std does not pass to the system.
 pub fn reason(rt: &impl Print, error: ErrorKind) -> io::Result<()> {
     let k = match error {
         ErrorKind::NotFound => 0,
@@ -16,7 +16,8 @@ pub fn reason(rt: &impl Print, error: ErrorKind) -> io::Result<()> {
         ErrorKind::NotADirectory => 5,
         ErrorKind::InvalidFilename => 6,
         ErrorKind::ReadOnlyFilesystem => 7,
-        _ => 8,
+        ErrorKind::InvalidData => 8,
+        _ => 9,
     };
     line(
         rt,
@@ -28,6 +29,7 @@ pub fn reason(rt: &impl Print, error: ErrorKind) -> io::Result<()> {
           its path leads through something that is no folder\n\
           its name is too long\n\
           the disk is read-only\n\
+          its name is not text in UTF-8\n\
           the system refuses it\n",
         k,
     )?;
