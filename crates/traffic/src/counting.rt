@@ -3,9 +3,10 @@ use crate::kinds;
 use crate::kinds::{Meaning, meaning_of};
 use crate::run::message_at;
 use message::dword_at;
+use std::alloc::{AllocError, Global};
 
 // Messages and dwords each way, messages by type, requests that a reply closed, replies that no request has.
-#[derive(Drop)]
+#[derive(Clone, Copy)]
 pub(crate) struct Totals {
     pub sent: u64,
     pub received: u64,
@@ -31,7 +32,7 @@ pub(crate) fn none() -> Totals {
 
 // A sum of counts of what a file has, which does not wrap.
 fn plus(a: u64, b: u64) -> u64 {
-    std::num::wrapping_add_u64(a, b)
+    a.wrapping_add(b)
 }
 
 impl Totals {
@@ -42,7 +43,7 @@ impl Totals {
     // The requests that no reply closed.
     pub(crate) fn unanswered(self) -> u64 {
         let kinds = self.kinds;
-        std::num::wrapping_sub_u64(kinds[kinds::REQUEST as usize], self.closed)
+        kinds[kinds::REQUEST as usize].wrapping_sub(self.closed)
     }
 }
 
@@ -65,8 +66,8 @@ pub(crate) fn sums(a: Totals, b: Totals) -> Totals {
 const FENCES: usize = 65536;
 
 // How many requests are open under each fence of each direction: none yet.
-pub(crate) fn none_open() -> [u32; 131072] {
-    [0u32; 131072]
+pub(crate) fn none_open(alloc: Global) -> Result<Vec<u32>, AllocError> {
+    vec![in alloc; 0u32; 2 * FENCES]
 }
 
 // Where the requests are counted that went this way with this fence.
@@ -75,47 +76,47 @@ fn place(direction: u32, fence: u32) -> usize {
 }
 
 // Stores a count; its place is always there.
-fn set(open: &mut [u32], at: usize, n: u32) {
-    if at < open.len() {
-        open[at] = n;
+fn set(waiting: &mut [u32], at: usize, n: u32) {
+    if at < waiting.len() {
+        waiting[at] = n;
     }
 }
 
 // Another request is open. The count stops at 4,294,967,295 open ones of one fence: a record that has more is longer than
 // 16 GiB, and of their replies those above that number count as replies without a request.
-fn count_open(open: &mut [u32], at: usize) {
-    let n = dword_at(open, at);
+fn count_open(waiting: &mut [u32], at: usize) {
+    let n = dword_at(waiting, at);
     if n < 0xffff_ffff {
-        set(open, at, n + 1);
+        set(waiting, at, n + 1);
     }
 }
 
 // A reply, to a request that went the other way: busy leaves it open, the others close it.
-fn replied(open: &mut [u32], at: usize, kind: u32, t: Totals) -> Totals {
+fn replied(waiting: &mut [u32], at: usize, kind: u32, t: Totals) -> Totals {
     let mut next = t;
-    let n = dword_at(open, at);
+    let n = dword_at(waiting, at);
     if n == 0 {
         next.stray = plus(t.stray, 1);
     } else if kind != kinds::BUSY {
-        set(open, at, n - 1);
+        set(waiting, at, n - 1);
         next.closed = plus(t.closed, 1);
     }
     next
 }
 
 // With a message, by its type. A request waits for a reply, as on the wall; a fast one and an event wait for none.
-fn with_kind(open: &mut [u32], direction: u32, m: Meaning, t: Totals) -> Totals {
+fn with_kind(waiting: &mut [u32], direction: u32, m: Meaning, t: Totals) -> Totals {
     let mut next = t;
     let kind = m.kind;
     let k = (kind % 8) as usize;
     next.kinds[k] = plus(t.kinds[k], 1);
     match kind {
         kinds::REQUEST => {
-            count_open(open, place(direction, m.fence));
+            count_open(waiting, place(direction, m.fence));
             next
         }
         kinds::BUSY | kinds::RETRY | kinds::FAILURE | kinds::SUCCESS => {
-            replied(open, place(direction ^ 1, m.fence), kind, next)
+            replied(waiting, place(direction ^ 1, m.fence), kind, next)
         }
         _ => next,
     }
@@ -135,20 +136,20 @@ fn with_direction(direction: u32, dwords: u64, t: Totals) -> Totals {
 }
 
 // With a message.
-fn with(open: &mut [u32], direction: u32, msg: &[u32], t: Totals) -> Totals {
+fn with(waiting: &mut [u32], direction: u32, msg: &[u32], t: Totals) -> Totals {
     let next = with_direction(direction, msg.len() as u64, t);
-    with_kind(open, direction, meaning_of(msg), next)
+    with_kind(waiting, direction, meaning_of(msg), next)
 }
 
 // With all of a run.
-pub(crate) fn with_run(open: &mut [u32], run: &[u32], t: Totals) -> Totals {
+pub(crate) fn with_run(waiting: &mut [u32], run: &[u32], t: Totals) -> Totals {
     let mut next = t;
     let mut at = 0;
     while at < run.len() {
         let s = message_at(run, at);
         let from = s.from;
         let to = s.to;
-        next = with(open, dword_at(run, at), &run[from..to], next);
+        next = with(waiting, dword_at(run, at), &run[from..to], next);
         at = to;
     }
     next

@@ -2,12 +2,13 @@
 use crate::kinds;
 use crate::kinds::{Meaning, meaning_of};
 use crate::options::Filter;
-use crate::page::{LINE, pad, put, put_decimal, put_hex, put_line, put_right, write};
+use crate::page::{
+    pad, put, put_decimal, put_dword, put_line, put_number, put_short, write, write_when_full,
+};
 use crate::run::message_at;
 use message::dword_at;
-
-// The column that a message's number ends at; the others are counted from its end.
-const NUMBER: usize = 7;
+use std::alloc::Global;
+use std::io;
 
 // The widest fields: action 0x4503 data 4095.
 const FIELDS: usize = 25;
@@ -19,161 +20,146 @@ const LENGTH: usize = 6;
 const BEHIND: usize = 4;
 
 // An action or an error, and what stands beside it.
-fn put_pair(room: &mut [u8], at: usize, m: Meaning) -> usize {
-    let to = put_hex(room, at, m.first, 4);
-    let to = put_line(room, to, b" data \n data \n data \n\n\n\n hint \n", m.kind);
-    put_decimal(room, to, m.second as u64)
+fn put_pair(page: &mut Vec<u8>, m: Meaning) -> io::Result<()> {
+    put_short(page, m.first)?;
+    put_line(page, b" data \n data \n data \n\n\n\n hint \n", m.kind)?;
+    put_decimal(page, m.second as u64)
 }
 
 // The fields in words, or what is malformed.
-fn put_fields(room: &mut [u8], at: usize, m: Meaning) -> usize {
+fn put_fields(page: &mut Vec<u8>, m: Meaning) -> io::Result<()> {
     if m.kind == kinds::MALFORMED {
         return put_line(
-            room,
-            at,
+            page,
             b"(no second dword)\n(format is not 0)\n(reserved is not 0)\n(unknown type 4)\n",
             m.first,
         );
     }
-    let to = put_line(
-        room,
-        at,
+    put_line(
+        page,
         b"action 0x\naction 0x\naction 0x\ncounter \n\nreason \nerror 0x\ndata \n",
         m.kind,
-    );
+    )?;
     if (m.kind <= kinds::FAST) | (m.kind == kinds::FAILURE) {
-        put_pair(room, to, m)
+        put_pair(page, m)
     } else {
-        put_decimal(room, to, m.first as u64)
+        put_decimal(page, m.first as u64)
     }
 }
 
 // The type in words and the fields, as wide as the widest.
-fn put_kind(room: &mut [u8], at: usize, m: Meaning) -> usize {
-    let from = put_line(
-        room,
-        at,
+fn put_kind(page: &mut Vec<u8>, m: Meaning) -> io::Result<()> {
+    put_line(
+        page,
         b"  request    \n  event      \n  fast       \n  busy       \n  malformed  \n  retry      \n  failure    \n  success    \n",
         m.kind,
-    );
-    let to = put_fields(room, from, m);
-    pad(room, to, std::num::wrapping_add_usize(from, FIELDS))
+    )?;
+    let column = page.len().saturating_add(FIELDS);
+    put_fields(page, m)?;
+    pad(page, column)
 }
 
 // The message's number, its direction and its fence.
-fn put_start(room: &mut [u8], number: u64, direction: u32, fence: u32) -> usize {
-    let to = put_right(room, 0, number, NUMBER);
-    let to = put_line(
-        room,
-        to,
+fn put_start(page: &mut Vec<u8>, number: u64, direction: u32, fence: u32) -> io::Result<()> {
+    put_number(page, number)?;
+    put_line(
+        page,
         b"  sent      fence 0x\n  received  fence 0x\n",
         direction,
-    );
-    put_hex(room, to, fence, 4)
+    )?;
+    put_short(page, fence)
 }
 
 // L.
-fn put_length(room: &mut [u8], at: usize, len: usize) -> usize {
-    let to = put(room, at, b"L ");
-    put_decimal(room, to, len as u64)
-}
-
-// Dword i of a message, where it has one.
-fn put_dword(room: &mut [u8], at: usize, msg: &[u32], i: usize) -> usize {
-    if i < msg.len() {
-        let to = put(room, at, b" ");
-        put_hex(room, to, msg[i], 8)
-    } else {
-        at
-    }
+fn put_length(page: &mut Vec<u8>, len: usize) -> io::Result<()> {
+    put(page, b"L ")?;
+    put_decimal(page, len as u64)
 }
 
 // Its first payload dwords.
-fn put_dwords(room: &mut [u8], at: usize, msg: &[u32]) -> usize {
-    let mut to = at;
+fn put_dwords(page: &mut Vec<u8>, msg: &[u32]) -> io::Result<()> {
     for i in 2..BEHIND {
-        to = put_dword(room, to, msg, i);
+        if i < msg.len() {
+            put(page, b" ")?;
+            put_dword(page, msg[i])?;
+        }
     }
-    to
+    Ok(())
 }
 
-// Those, and whether there are more. `from` is where L starts; a line with no payload ends with L.
-fn put_payload(room: &mut [u8], at: usize, from: usize, msg: &[u32]) -> usize {
+// L, those, and whether there are more. A line with no payload ends with L.
+fn put_payload(page: &mut Vec<u8>, msg: &[u32]) -> io::Result<()> {
+    let column = page.len().saturating_add(LENGTH);
+    put_length(page, msg.len())?;
     if msg.len() <= 2 {
-        return at;
+        return Ok(());
     }
-    let to = pad(room, at, std::num::wrapping_add_usize(from, LENGTH));
-    let to = put_dwords(room, to, msg);
+    pad(page, column)?;
+    put_dwords(page, msg)?;
     if BEHIND < msg.len() {
-        put(room, to, b" ..")
-    } else {
-        to
+        put(page, b" ..")?;
     }
+    Ok(())
 }
 
 // The line of a message.
-fn put_message(room: &mut [u8], number: u64, direction: u32, m: Meaning, msg: &[u32]) -> usize {
-    let to = put_start(room, number, direction, m.fence);
-    let from = put_kind(room, to, m);
-    let to = put_length(room, from, msg.len());
-    let to = put_payload(room, to, from, msg);
-    put(room, to, b"\n")
+fn put_message(
+    page: &mut Vec<u8>,
+    number: u64,
+    direction: u32,
+    m: Meaning,
+    msg: &[u32],
+) -> io::Result<()> {
+    put_start(page, number, direction, m.fence)?;
+    put_kind(page, m)?;
+    put_payload(page, msg)?;
+    put(page, b"\n")
 }
 
 // Puts the line of a message on a page, where the filter lets it through.
 fn show(
-    page: &mut [u8],
-    filled: usize,
+    rt: &impl Print,
+    page: &mut Vec<u8>,
     number: u64,
     direction: u32,
     msg: &[u32],
     f: Filter,
-) -> usize {
+) -> io::Result<()> {
     let m = meaning_of(msg);
     if !f.passes(m) {
-        return filled;
+        return Ok(());
     }
-    let mut line = [0u8; LINE];
-    let n = put_message(&mut line, number, direction, m, msg);
-    let first = written_when_full(page, filled);
-    put_first(page, first, &line, n)
-}
-
-// The first bytes of a line.
-fn put_first(page: &mut [u8], filled: usize, line: &[u8], n: usize) -> usize {
-    if n <= line.len() {
-        put(page, filled, &line[0..n])
-    } else {
-        filled
-    }
-}
-
-// Writes a page that has no room for a line more; answers how far what is left is filled.
-fn written_when_full(page: &[u8], filled: usize) -> usize {
-    if std::num::wrapping_add_usize(filled, LINE) <= page.len() {
-        return filled;
-    }
-    write(page, filled);
-    0
+    write_when_full(rt, page)?;
+    put_message(page, number, direction, m, msg)
 }
 
 // Writes the lines of a run, whose first message comes behind so many.
-pub(crate) fn show_run(run: &[u32], before: u64, f: Filter) {
-    let mut page = io::buffer();
-    show_on(&mut page, run, before, f);
+pub(crate) fn show_run(
+    rt: &impl Print,
+    alloc: Global,
+    run: &[u32],
+    before: u64,
+    f: Filter,
+) -> io::Result<()> {
+    let mut page = Vec::new(alloc);
+    show_on(rt, &mut page, run, before, f)?;
+    write(rt, &mut page)
 }
 
-fn show_on(page: &mut [u8], run: &[u32], before: u64, f: Filter) {
-    let mut filled = 0;
+fn show_on(
+    rt: &impl Print,
+    page: &mut Vec<u8>,
+    run: &[u32],
+    before: u64,
+    f: Filter,
+) -> io::Result<()> {
     let mut number = before;
     let mut at = 0;
     while at < run.len() {
         let s = message_at(run, at);
-        let from = s.from;
-        let to = s.to;
-        number = std::num::wrapping_add_u64(number, 1);
-        filled = show(page, filled, number, dword_at(run, at), &run[from..to], f);
-        at = to;
+        number = number.wrapping_add(1);
+        show(rt, page, number, dword_at(run, at), &run[s.from..s.to], f)?;
+        at = s.to;
     }
-    write(page, filled);
+    Ok(())
 }

@@ -15,130 +15,177 @@ mod totals;
 use counting::Totals;
 use options::Options;
 use pieces::Place;
+use std::fs::File;
+use std::io;
+use std::io::{ErrorKind, Read, Seek};
+use std::rt::{Env, Files};
 use totals::{DAMAGED, NOT_READ, Tally, WHOLE};
 
 // What became of a file: how it ended, and its totals as far as it was read.
-#[derive(Drop)]
+#[derive(Clone, Copy)]
 struct Outcome {
     class: u32,
     totals: Totals,
 }
 
 // The messages of a piece, as a run: writes their lines, where lines are asked for, and answers the totals with them.
-fn with_piece(open: &mut [u32], run: &[u32], o: Options, t: Totals) -> Totals {
+fn with_piece(
+    rt: &(impl Print + AllocGlobal),
+    waiting: &mut [u32],
+    run: &[u32],
+    o: Options,
+    t: Totals,
+) -> io::Result<Totals> {
     if !o.totals {
-        lines::show_run(run, t.messages(), o.filter);
+        lines::show_run(rt, rt.alloc(), run, t.messages(), o.filter)?;
     }
-    counting::with_run(open, run, t)
+    Ok(counting::with_run(waiting, run, t))
 }
 
 // How the file ended, in a line of its own where it is not whole.
-fn ended(p: Place) -> u32 {
+fn ended(rt: &impl Print, p: Place) -> io::Result<u32> {
     if p.fault != 0 {
-        say::one(b"DAMAGED at byte %: ", p.bad);
-        say::fault(p.fault);
-        say::end();
-        return DAMAGED;
+        say::one(rt, b"DAMAGED at byte %: ", p.bad)?;
+        say::fault(rt, p.fault)?;
+        say::end(rt)?;
+        return Ok(DAMAGED);
     }
-    if p.error != 0 {
-        say::one(b"NOT READ from byte % on: ", p.front);
-        say::reason(p.error);
-        return NOT_READ;
+    if let Some(error) = p.error {
+        say::one(rt, b"NOT READ from byte % on: ", p.front)?;
+        say::reason(rt, error)?;
+        return Ok(NOT_READ);
     }
-    WHOLE
+    Ok(WHOLE)
 }
 
 // Goes through an open file, in the room lent. A proved loop has to end, and nothing says that a file does: the loop
-// counts its turns down, from a number that no run uses up.
-fn through(fd: i32, piece: &mut [u8], out: &mut [u32], open: &mut [u32], o: Options) -> Outcome {
-    let size = if o.progress { progress::size(fd) } else { 0 };
+// has more turns than any run uses up.
+fn through(
+    rt: &(impl Print + Eprint + AllocGlobal),
+    file: &mut (impl Read + Seek),
+    piece: &mut [u8],
+    out: &mut [u32],
+    waiting: &mut [u32],
+    o: Options,
+) -> io::Result<Outcome> {
+    let size = if o.progress { progress::size(file) } else { 0 };
     let mut p = pieces::start();
     let mut t = counting::none();
-    let mut turns = u64::MAX;
-    while turns > 0 && !p.done {
-        let before = p.front;
-        p = pieces::next(fd, piece, out, p);
-        t = with_piece(open, run::front(out, p.written), o, t);
-        if o.progress {
-            progress::say_at(before, p.front, size);
+    for _ in 0..u64::MAX {
+        if p.done {
+            break;
         }
-        turns -= 1;
+        let before = p.front;
+        p = pieces::next(file, piece, out, p);
+        t = with_piece(rt, waiting, run::front(out, p.written), o, t)?;
+        if o.progress {
+            progress::say_at(rt, before, p.front, size);
+        }
     }
     if o.progress {
-        progress::take_away(p.front);
+        progress::take_away(rt, p.front);
     }
-    Outcome {
-        class: ended(p),
+    Ok(Outcome {
+        class: ended(rt, p)?,
         totals: t,
-    }
+    })
 }
 
 // An open file, with room of its own.
-fn opened(fd: i32, o: Options) -> Outcome {
-    let mut piece = io::large_buffer();
-    let mut out = pieces::room();
-    let mut open = counting::none_open();
-    let r = through(fd, &mut piece, &mut out, &mut open, o);
-    libc::close(fd);
-    totals::print(r.totals);
-    r
+fn opened(
+    rt: &(impl Print + Eprint + AllocGlobal),
+    file: &mut (impl Read + Seek),
+    o: Options,
+) -> io::Result<Outcome> {
+    let mut piece = pieces::piece(rt.alloc())?;
+    let mut out = pieces::room(rt.alloc())?;
+    let mut waiting = counting::none_open(rt.alloc())?;
+    let r = through(
+        rt,
+        file,
+        piece.as_mut_slice(),
+        out.as_mut_slice(),
+        waiting.as_mut_slice(),
+        o,
+    )?;
+    totals::print(rt, r.totals)?;
+    Ok(r)
 }
 
-// A file that cannot be opened, by the system's number.
-fn unread(error: i32) -> Outcome {
-    say::text(b"NOT READ: ");
-    say::reason(error);
-    Outcome {
+// A file that cannot be opened, by the system's error.
+fn unread(rt: &impl Print, error: ErrorKind) -> io::Result<Outcome> {
+    say::text(rt, b"NOT READ: ")?;
+    say::reason(rt, error)?;
+    Ok(Outcome {
         class: NOT_READ,
         totals: counting::none(),
-    }
+    })
 }
 
 // The file that argument i names, behind its name.
-fn file(i: usize, o: Options) -> Outcome {
-    let mut path = io::buffer();
-    let n = os::arg(i, &mut path);
-    if os::errno() != 0 {
-        return unread(libc::ENAMETOOLONG);
+fn file(
+    rt: &(impl Print + Eprint + Files + Env + AllocGlobal),
+    i: usize,
+    o: Options,
+) -> io::Result<Outcome> {
+    let mut room = options::room();
+    let Ok(n) = rt.arg(i, &mut room) else {
+        return unread(rt, ErrorKind::InvalidFilename);
+    };
+    let name = &room[..n];
+    say::quoted(rt, name)?;
+    say::end(rt)?;
+    match open(rt, name) {
+        Ok(mut file) => opened(rt, &mut file, o),
+        Err(e) => unread(rt, e.kind()),
     }
-    say::quoted(&path[..n]);
-    say::end();
-    let fd = os::open_read(&path[..n]);
-    if fd < 0 {
-        return unread(os::errno());
+}
+
+// Opens the file of that name. std takes names in UTF-8 alone.
+fn open<R: Files>(rt: &R, name: &[u8]) -> io::Result<R::File> {
+    match str::from_utf8(name) {
+        Ok(path) => File::open(rt, path),
+        Err(_) => Err(io::Error::from(ErrorKind::InvalidData)),
     }
-    opened(fd, o)
 }
 
 // The totals over several files.
-fn print_all(o: Options, all: Totals) {
+fn print_all(rt: &impl Print, o: Options, all: Totals) -> io::Result<()> {
     if o.several {
-        say::text(b"All files\n");
-        totals::print(all);
-        say::end();
+        say::text(rt, b"All files\n")?;
+        totals::print(rt, all)?;
+        say::end(rt)?;
     }
+    Ok(())
 }
 
 // Every file, from the argument behind the options on.
-fn files(o: Options, count: usize) -> Tally {
+fn files(
+    rt: &(impl Print + Eprint + Files + Env + AllocGlobal),
+    o: Options,
+    count: usize,
+) -> io::Result<Tally> {
     let mut all = counting::none();
     let mut tally = totals::no_file();
     for i in o.at..count {
-        let r = file(i, o);
+        let r = file(rt, i, o)?;
         all = counting::sums(all, r.totals);
         tally = tally.with(r.class);
-        say::end();
+        say::end(rt)?;
     }
-    print_all(o, all);
-    tally
+    print_all(rt, o, all)?;
+    Ok(tally)
 }
 
-fn main() {
-    let o = options::read();
+fn main(rt: HostRuntime) -> io::Result<()> {
+    let o = options::read(&rt);
     if o.wrong {
-        say::complaint(b"usage: traffic [--fence F] [--type NAME] [--totals] FILE..\n");
-        say::text(b"traffic: wrong usage\n");
-        return;
+        say::complaint(
+            &rt,
+            "usage: traffic [--fence F] [--type NAME] [--totals] FILE..\n",
+        );
+        return say::text(&rt, b"traffic: wrong usage\n");
     }
-    totals::last_line(files(o, os::arg_count()));
+    let tally = files(&rt, o, options::count(&rt))?;
+    totals::last_line(&rt, tally)
 }

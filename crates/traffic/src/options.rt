@@ -1,6 +1,10 @@
 // The options in front of the files.
+ghost use Rattle.std.specs.Prelude.{◌≡◌, length};
+
 use crate::kinds;
 use crate::kinds::Meaning;
+use std::env::FillError;
+use std::rt::Env;
 
 // Which messages are shown: those with this fence and of this type. NO_NUMBER and NO_KIND let all through.
 #[derive(Clone, Copy)]
@@ -72,22 +76,45 @@ fn digits(s: &[u8], from: usize, base: u32) -> u32 {
     n
 }
 
+// Room for a word. A longer one is no option, no value of one, and no name that the system takes.
+pub(crate) fn room() -> [u8; 4096]
+    ensures { length result ≡ 4096 }
+{
+    [0u8; 4096]
+}
+
+// The bytes of argument i, which need not be text; none where there is no such argument, or it is longer than the room.
+pub(crate) fn word<'a>(rt: &impl Env, i: usize, room: &'a mut [u8]) -> &'a [u8] {
+    match rt.arg(i, room) {
+        Ok(n) => &room[..n],
+        Err(_) => &room[..0],
+    }
+}
+
+// How many arguments there are, the program's own name among them.
+pub(crate) fn count(rt: &impl Env) -> usize {
+    for i in 1..usize::MAX {
+        if let Err(FillError::NotPresent) = rt.arg(i, &mut []) {
+            return i;
+        }
+    }
+    usize::MAX
+}
+
 // The fence that argument i is, in decimal, or in hexadecimal behind 0x.
-fn fence_argument(i: usize) -> u32 {
-    let mut word = io::buffer();
-    let n = os::arg(i, &mut word);
-    if say::starts(&word[..n], b"0x") {
-        digits(&word[..n], 2, 16)
+fn fence_argument(rt: &impl Env, i: usize) -> u32 {
+    let mut room = room();
+    let word = word(rt, i, &mut room);
+    if say::starts(word, b"0x") {
+        digits(word, 2, 16)
     } else {
-        digits(&word[..n], 0, 10)
+        digits(word, 0, 10)
     }
 }
 
 // The type that argument i names.
-fn kind_argument(i: usize) -> u32 {
-    let mut word = io::buffer();
-    let n = os::arg(i, &mut word);
-    kinds::named(&word[..n])
+fn kind_argument(rt: &impl Env, i: usize) -> u32 {
+    kinds::named(word(rt, i, &mut room()))
 }
 
 // The options. PROGRESS is the script's, which knows whether somebody looks on.
@@ -125,39 +152,37 @@ fn option_of(word: &[u8]) -> u32 {
 }
 
 // Which option argument i is.
-fn option_argument(i: usize) -> u32 {
-    let mut word = io::buffer();
-    let n = os::arg(i, &mut word);
-    option_of(&word[..n])
+fn option_argument(rt: &impl Env, i: usize) -> u32 {
+    option_of(word(rt, i, &mut room()))
 }
 
 // With the option in argument `at`; the value of one that has a value is the argument behind it. One that is given twice
 // is wrong.
-fn with_option(o: Options, option: u32) -> Options {
-    let value = std::num::wrapping_add_usize(o.at, 1);
+fn with_option(rt: &impl Env, o: Options, option: u32) -> Options {
+    let value = o.at.wrapping_add(1);
     let filter = o.filter;
     let mut next = o;
     next.at = value;
     match option {
         FENCE => {
-            let fence = fence_argument(value);
+            let fence = fence_argument(rt, value);
             next.wrong = (filter.fence != NO_NUMBER) | (fence == NO_NUMBER);
             let chosen = Filter {
                 fence,
                 kind: filter.kind,
             };
             next.filter = chosen;
-            next.at = std::num::wrapping_add_usize(value, 1);
+            next.at = value.wrapping_add(1);
         }
         KIND => {
-            let kind = kind_argument(value);
+            let kind = kind_argument(rt, value);
             next.wrong = (filter.kind != kinds::NO_KIND) | (kind == kinds::NO_KIND);
             let chosen = Filter {
                 fence: filter.fence,
                 kind,
             };
             next.filter = chosen;
-            next.at = std::num::wrapping_add_usize(value, 1);
+            next.at = value.wrapping_add(1);
         }
         TOTALS => {
             next.wrong = o.totals;
@@ -171,14 +196,14 @@ fn with_option(o: Options, option: u32) -> Options {
 }
 
 // Up to the first file; each option stands at most once.
-fn all_options(o: Options) -> Options {
+fn all_options(rt: &impl Env, o: Options) -> Options {
     let mut next = o;
-    for k in 0usize..8 {
-        let option = option_argument(next.at);
+    for _ in 0..8 {
+        let option = option_argument(rt, next.at);
         if option == NONE {
             return next;
         }
-        next = with_option(next, option);
+        next = with_option(rt, next, option);
         if next.ended | next.wrong {
             return next;
         }
@@ -188,9 +213,9 @@ fn all_options(o: Options) -> Options {
 }
 
 // Whether an option stands among the files.
-fn option_behind(from: usize, count: usize) -> bool {
+fn option_behind(rt: &impl Env, from: usize, count: usize) -> bool {
     for i in from..count {
-        if option_argument(i) != NONE {
+        if option_argument(rt, i) != NONE {
             return true;
         }
     }
@@ -215,16 +240,16 @@ fn nothing_asked() -> Options {
 
 // The options of this run. What starts with a dash is no file, unless `--` stands before the files: else an option behind
 // a file would be passed over. A filter has no line to pass where only totals are asked.
-pub(crate) fn read() -> Options {
-    let count = os::arg_count();
-    let mut o = all_options(nothing_asked());
+pub(crate) fn read(rt: &impl Env) -> Options {
+    let count = count(rt);
+    let mut o = all_options(rt, nothing_asked());
     let files = if o.at < count { count - o.at } else { 0 };
     let filter = o.filter;
     let filtered = (filter.fence != NO_NUMBER) | (filter.kind != kinds::NO_KIND);
     let mixed = if o.ended {
         false
     } else {
-        option_behind(o.at, count)
+        option_behind(rt, o.at, count)
     };
     o.several = 1 < files;
     o.wrong = o.wrong | (files == 0) | (o.totals & filtered) | mixed;

@@ -1,65 +1,60 @@
-// Text that is put together before it is written, so that a message takes no call of the system of its own. Each function
-// answers where the next byte goes; what goes past the end is dropped, and lines are shorter than their room.
+// Text that is put together before it is written, so that a message takes no call of the system of its own.
+use std::io;
+use std::io::Write;
 
-// Room for a line: 89 columns behind its message's number, which has at most 20 digits, and its end.
-pub(crate) const LINE: usize = 128;
-
-// A byte.
-fn put_byte(room: &mut [u8], at: usize, b: u8) -> usize {
-    if at < room.len() {
-        room[at] = b;
-        return at + 1;
-    }
-    at
-}
+// So long a page is written before the next line: 4 KiB less the longest line, which has 89 columns behind its message's
+// number, of at most 20 digits, and its end.
+const FULL: usize = 3968;
 
 // Text as it stands.
-pub(crate) fn put(room: &mut [u8], at: usize, t: &[u8]) -> usize {
-    let mut to = at;
-    for i in 0..t.len() {
-        to = put_byte(room, to, t[i]);
-    }
-    to
+pub(crate) fn put(page: &mut Vec<u8>, t: &[u8]) -> io::Result<()> {
+    Ok(page.extend_from_slice(t)?)
 }
 
 // Line k of a text, counted from 0.
-pub(crate) fn put_line(room: &mut [u8], at: usize, t: &[u8], k: u32) -> usize {
-    put(room, at, say::line_of(t, k as usize))
+pub(crate) fn put_line(page: &mut Vec<u8>, t: &[u8], k: u32) -> io::Result<()> {
+    put(page, say::line_of(t, k as usize))
 }
 
-// Spaces, up to a column.
-pub(crate) fn pad(room: &mut [u8], at: usize, column: usize) -> usize {
-    let mut to = at;
-    for i in at..column {
-        to = put_byte(room, to, b' ');
+// Spaces, up to where the page has so many bytes.
+pub(crate) fn pad(page: &mut Vec<u8>, column: usize) -> io::Result<()> {
+    for _ in page.len()..column {
+        put(page, b" ")?;
     }
-    to
+    Ok(())
 }
 
 // A number in decimal.
-pub(crate) fn put_decimal(room: &mut [u8], at: usize, n: u64) -> usize {
-    put_right(room, at, n, 0)
+pub(crate) fn put_decimal(page: &mut Vec<u8>, n: u64) -> io::Result<()> {
+    write!(page, "{n}")
 }
 
-// A number in decimal that ends at a column, or behind it where it is longer.
-pub(crate) fn put_right(room: &mut [u8], at: usize, n: u64, column: usize) -> usize {
-    let mut digits = [0u8; 20];
-    let k = io::decimal(n, &mut digits);
-    let from = if k < column { column - k } else { 0 };
-    let to = pad(room, at, from);
-    put(room, to, &digits[..k])
+// A number in decimal in seven columns, or in more where it is longer.
+pub(crate) fn put_number(page: &mut Vec<u8>, n: u64) -> io::Result<()> {
+    write!(page, "{n:>7}")
 }
 
-// A number by so many hexadecimal digits.
-pub(crate) fn put_hex(room: &mut [u8], at: usize, n: u32, width: usize) -> usize {
-    let mut digits = [0u8; 16];
-    let k = io::hex(n as u64, width, &mut digits);
-    put(room, at, &digits[..k])
+// A number by at least four hexadecimal digits.
+pub(crate) fn put_short(page: &mut Vec<u8>, n: u32) -> io::Result<()> {
+    write!(page, "{n:04x}")
 }
 
-// Writes what was put.
-pub(crate) fn write(room: &[u8], filled: usize) {
-    if filled <= room.len() {
-        io::write_all(1, &room[0..filled]);
+// A dword by its hexadecimal digits.
+pub(crate) fn put_dword(page: &mut Vec<u8>, n: u32) -> io::Result<()> {
+    write!(page, "{n:08x}")
+}
+
+// Writes a page that has no room for a line more.
+pub(crate) fn write_when_full(rt: &impl Print, page: &mut Vec<u8>) -> io::Result<()> {
+    if page.len() < FULL {
+        return Ok(());
     }
+    write(rt, page)
+}
+
+// Writes what was put, and begins the page anew.
+pub(crate) fn write(rt: &impl Print, page: &mut Vec<u8>) -> io::Result<()> {
+    say::text(rt, page.as_slice())?;
+    page.clear();
+    Ok(())
 }

@@ -2,6 +2,7 @@
 use crate::counting::Totals;
 use crate::kinds;
 use say::count;
+use std::io;
 
 // How many are of one type.
 fn by_kind(t: Totals, kind: u32) -> u64 {
@@ -10,47 +11,56 @@ fn by_kind(t: Totals, kind: u32) -> u64 {
 }
 
 // Messages and dwords each way.
-fn each_way(t: Totals) {
-    count(t.messages(), b"% message: ", b"% messages: ");
-    say::one(b"% sent (", t.sent);
-    count(t.sent_dwords, b"% dword), ", b"% dwords), ");
-    say::one(b"% received (", t.received);
-    count(t.received_dwords, b"% dword)\n", b"% dwords)\n");
+fn each_way(rt: &impl Print, t: Totals) -> io::Result<()> {
+    count(rt, t.messages(), b"% message: ", b"% messages: ")?;
+    say::one(rt, b"% sent (", t.sent)?;
+    count(rt, t.sent_dwords, b"% dword), ", b"% dwords), ")?;
+    say::one(rt, b"% received (", t.received)?;
+    count(rt, t.received_dwords, b"% dword)\n", b"% dwords)\n")
 }
 
 // Messages by type: what asks, then what replies.
-fn by_type(t: Totals) {
-    count(by_kind(t, kinds::REQUEST), b"% request, ", b"% requests, ");
+fn by_type(rt: &impl Print, t: Totals) -> io::Result<()> {
     count(
+        rt,
+        by_kind(t, kinds::REQUEST),
+        b"% request, ",
+        b"% requests, ",
+    )?;
+    count(
+        rt,
         by_kind(t, kinds::FAST),
         b"% fast request, ",
         b"% fast requests, ",
-    );
-    count(by_kind(t, kinds::EVENT), b"% event, ", b"% events, ");
-    say::one(b"% malformed\n", by_kind(t, kinds::MALFORMED));
+    )?;
+    count(rt, by_kind(t, kinds::EVENT), b"% event, ", b"% events, ")?;
+    say::one(rt, b"% malformed\n", by_kind(t, kinds::MALFORMED))?;
     say::four(
+        rt,
         b"% success, % failure, % retry, % busy\n",
         by_kind(t, kinds::SUCCESS),
         by_kind(t, kinds::FAILURE),
         by_kind(t, kinds::RETRY),
         by_kind(t, kinds::BUSY),
-    );
+    )
 }
 
 // All of it, four lines.
-pub(crate) fn print(t: Totals) {
-    each_way(t);
-    by_type(t);
+pub(crate) fn print(rt: &impl Print, t: Totals) -> io::Result<()> {
+    each_way(rt, t)?;
+    by_type(rt, t)?;
     count(
+        rt,
         t.unanswered(),
         b"% request without a reply; ",
         b"% requests without a reply; ",
-    );
+    )?;
     count(
+        rt,
         t.stray,
         b"% reply without a request\n",
         b"% replies without a request\n",
-    );
+    )
 }
 
 // The files by how they ended.
@@ -79,7 +89,7 @@ pub(crate) fn no_file() -> Tally {
 
 // One more; a count of arguments does not wrap.
 fn more(n: u64) -> u64 {
-    std::num::wrapping_add_u64(n, 1)
+    n.wrapping_add(1)
 }
 
 impl Tally {
@@ -96,12 +106,13 @@ impl Tally {
 }
 
 // The last line, which the script takes its exit status from.
-pub(crate) fn last_line(t: Tally) {
+pub(crate) fn last_line(rt: &impl Print, t: Tally) -> io::Result<()> {
     say::four(
+        rt,
         b"traffic: % whole, % damaged, % not read\n",
         t.whole,
         t.damaged,
         t.unread,
         0,
-    );
+    )
 }
