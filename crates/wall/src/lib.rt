@@ -1,6 +1,6 @@
-// Replies matched to requests for a whole wall (document 02, T-06 and T-08): the functions over a lent table. Their proofs
-// are by hand, so they are few and thin: each record is taken by value once, all is decided on those values (`requests`),
-// and one record is stored, or none. Making a table fresh reads no record and stores all.
+// Replies matched to requests for a whole wall (document 02, T-06 and T-08): the functions over a lent table. They
+// are few and thin: each record is taken by value once, all is decided on those values (`requests`), and one record is
+// stored, or none. Making a table fresh reads no record and stores all.
 #![tactic(auto)]
 
 mod sending;
