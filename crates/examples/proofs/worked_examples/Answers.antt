@@ -31,7 +31,6 @@ use Rattle.examples.specs.Table.{table, fresh_channel, once, twice, thrice, full
 use Rattle.examples.proofs.worked_examples.Goals as goal
 
 infixr 5 ◌&◌
-
 -- a row, and the rows after it
 abbrev ◌&◌ : {A B : Type 0} → A → B → A × B
 ◌&◌ row rows = (row, rows)

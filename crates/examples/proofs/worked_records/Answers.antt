@@ -12,7 +12,6 @@ use Rattle.examples.specs.Inputs
 use Rattle.examples.proofs.worked_records.Goals as goal
 
 infixr 5 ◌&◌
-
 -- a row, and the rows after it
 abbrev ◌&◌ : {A B : Type 0} → A → B → A × B
 ◌&◌ row rows = (row, rows)

@@ -1,8 +1,7 @@
 -- `record_demand_1` meets its contract: each call of a record by its own page. Assumes nothing.
-use Prim.Native.Nat.{ℕ}
 use mathlib.Core.Path.{◌≡◌, refl}
 use mathlib.Core.Bool.{true}
-use Rattle.refusals.specs.RecordRefusals.{RecordCall, RecordDemand1, RecordLeftBy, record_number_of, record_tests}
+use Rattle.refusals.specs.RecordRefusals.{RecordCall, RecordLeftBy, record_number_of, record_tests}
 use Rattle.refusals.specs.RecordRefusals.{add_call, read_call, write_call}
 use Rattle.refusals.proofs.Lowest.{accepts, all_rise, exactly, first_judged, rising}
 use Rattle.refusals.proofs.Records.{add_number_fact, add_refused, read_number_lem, read_refused}
