@@ -89,15 +89,28 @@ build() {
     fi
 }
 
+# The program's library opens files by names in UTF-8 alone. Any word that is not ASCII has a link by its number, which the
+# program takes where the word is no text.
+link_files() { # WORDS..
+    local LC_ALL=C word number=0
+    for word; do
+        number=$((number + 1))
+        [[ $word == *[$'\x80'-$'\xff']* ]] || continue
+        case $word in /*) ;; *) word=$PWD/$word ;; esac
+        ln -s -- "$word" "$kept/$number" 2>/dev/null # what cannot be linked, it says that it cannot read
+    done
+}
+
 # Runs the program, and leaves its last line in `last`. The output is passed on as it comes, also where nobody reads it to
 # its end (-p); only its last line is kept, however long it is.
 run_program() { # WORDS..
     local ends tail more=''
     kept=$(mktemp -d) && mkfifo "$kept/output" || fail "no temporary file could be made."
     trap 'rm -rf "$kept"' EXIT
+    link_files "$@"
     tail -n 1 <"$kept/output" >"$kept/last" &
     tail=$!
-    "$program" "$@" | tee -p "$kept/output"
+    FILE_LINKS=$kept "$program" "$@" | tee -p "$kept/output"
     ends=("${PIPESTATUS[@]}")
     wait "$tail"
     last=$(tr -d '\0' <"$kept/last")

@@ -71,16 +71,15 @@ fn opened(
 
 // The file that argument i names.
 fn file(rt: &(impl Print + Files + Env + AllocGlobal), i: usize, o: Options) -> io::Result<u32> {
-    let mut room = options::room();
-    let Ok(n) = rt.arg(i, &mut room) else {
+    let mut room = say::room();
+    let Some(name) = say::whole_word(rt, i, &mut room) else {
         return reading::unread(rt, ErrorKind::InvalidFilename);
     };
-    let path = &room[..n];
     if o.several {
-        reading::name(rt, path)?;
+        reading::name(rt, name)?;
     }
-    match reading::open(rt, path) {
-        Ok(mut file) => opened(rt, &mut file, image::firmware_named(path), o),
+    match say::open(rt, i, name) {
+        Ok(mut file) => opened(rt, &mut file, image::firmware_named(name), o),
         Err(e) => reading::unread(rt, e.kind()),
     }
 }
@@ -108,6 +107,6 @@ fn main(rt: HostRuntime) -> io::Result<()> {
         );
         return say::text(&rt, b"fwparts: wrong usage\n");
     }
-    let all = files(&rt, o, options::count(&rt))?;
+    let all = files(&rt, o, say::word_count(&rt))?;
     tally::last_line(&rt, all)
 }

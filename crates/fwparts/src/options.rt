@@ -1,8 +1,5 @@
 // The options in front of the files.
-ghost use Rattle.std.specs.Prelude.{◌≡◌, length};
-
 use say::equal;
-use std::env::FillError;
 use std::rt::Env;
 
 // A version that is expected: how many of its numbers are given, none where no version is, and the numbers.
@@ -78,34 +75,9 @@ fn version(s: &[u8]) -> Expected {
     }
 }
 
-// Room for a word. A longer one is no option, no value of one, and no name that the system takes.
-pub(crate) fn room() -> [u8; 4096]
-    ensures { length result ≡ 4096 }
-{
-    [0u8; 4096]
-}
-
-// The bytes of argument i, which need not be text; none where there is no such argument, or it is longer than the room.
-pub(crate) fn word<'a>(rt: &impl Env, i: usize, room: &'a mut [u8]) -> &'a [u8] {
-    match rt.arg(i, room) {
-        Ok(n) => &room[..n],
-        Err(_) => &room[..0],
-    }
-}
-
-// How many arguments there are, the program's own name among them.
-pub(crate) fn count(rt: &impl Env) -> usize {
-    for i in 1..usize::MAX {
-        if let Err(FillError::NotPresent) = rt.arg(i, &mut []) {
-            return i;
-        }
-    }
-    usize::MAX
-}
-
 // Argument i as a version.
 fn version_argument(rt: &impl Env, i: usize) -> Expected {
-    version(word(rt, i, &mut room()))
+    version(say::word(rt, i, &mut say::room()))
 }
 
 // The options.
@@ -144,7 +116,7 @@ fn option_of(word: &[u8]) -> u32 {
 
 // Which option argument i is.
 fn option_argument(rt: &impl Env, i: usize) -> u32 {
-    option_of(word(rt, i, &mut room()))
+    option_of(say::word(rt, i, &mut say::room()))
 }
 
 // With the option in argument `at`, whose value is the argument behind it. One that is given twice is wrong.
@@ -229,7 +201,7 @@ fn nothing_asked() -> Options {
 // file. What starts with a dash is no file, unless `--` stands before the files: else an option behind a file would be
 // passed over.
 pub(crate) fn read(rt: &impl Env) -> Options {
-    let count = count(rt);
+    let count = say::word_count(rt);
     let mut o = all_options(rt, nothing_asked());
     let files = if o.at < count { count - o.at } else { 0 };
     let half = (o.part_at == 0) != (o.out_at == 0);

@@ -1,5 +1,5 @@
 // A part written to a new file: of the very bytes that were judged good in this run.
-use crate::{options, reading, verdicts};
+use crate::{reading, verdicts};
 use firmware::Component;
 use say::equal;
 use std::fs::{OpenFile, OpenOptions};
@@ -19,7 +19,7 @@ pub(crate) fn part(
     name: usize,
     out: usize,
 ) -> io::Result<u32> {
-    part_named(rt, blob, options::word(rt, name, &mut options::room()), out)
+    part_named(rt, blob, say::word(rt, name, &mut say::room()), out)
 }
 
 // The part of that name: an entry of a directory, or a component of the image, also of the one in a directory.
@@ -119,8 +119,8 @@ fn written(
         say::end(rt)?;
         return Ok(verdicts::NOT_WRITTEN);
     }
-    let mut room = options::room();
-    let path = options::word(rt, out, &mut room);
+    let mut room = say::room();
+    let path = say::word(rt, out, &mut room);
     if let Err(e) = stored(rt, bytes, path) {
         say::text(rt, b"  not written, to ")?;
         reading::name(rt, path)?;
@@ -138,7 +138,7 @@ fn written(
 // Stores the bytes in a file that is new: one that is there is never overwritten, and one that is not written whole is
 // removed.
 fn stored(rt: &impl Files, bytes: &[u8], name: &[u8]) -> io::Result<()> {
-    let path = reading::path(name)?;
+    let path = say::path(name)?;
     let mut file = OpenOptions::new()
         .write(true)
         .create_new(true)

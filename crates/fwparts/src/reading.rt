@@ -1,26 +1,11 @@
 // Reading a file whole, or saying why not.
 use crate::verdicts;
 use std::alloc::Global;
-use std::fs::File;
 use std::io;
 use std::io::{ErrorKind, Read};
-use std::rt::Files;
 
 // The longest file that is read: 4 MiB.
 const MOST: usize = 4194304;
-
-// A name as std takes it, which opens files by names in UTF-8 alone.
-pub(crate) fn path(name: &[u8]) -> io::Result<&str> {
-    match str::from_utf8(name) {
-        Ok(text) => Ok(text),
-        Err(_) => Err(io::Error::from(ErrorKind::InvalidData)),
-    }
-}
-
-// Opens the file of that name.
-pub(crate) fn open<R: Files>(rt: &R, name: &[u8]) -> io::Result<R::File> {
-    File::open(rt, path(name)?)
-}
 
 // Room for the longest file that is read.
 pub(crate) fn room(alloc: Global) -> io::Result<Vec<u8>> {

@@ -1,10 +1,11 @@
 // The words that programs print: templates with numbers in them, one sentence for each number that says no, the ring's
-// picture, and the versions and parts of firmware files. Nothing says what reaches the system, so what prints
+// picture, and the versions and parts of firmware files; and the words that programs are given. Nothing says what reaches the system, so what prints
 // has no more to promise than that it ends and does nothing undefined; it answers whether the system took the text.
 #![tactic(auto)]
 
 mod answers;
 mod bytes;
+mod given;
 mod names;
 mod numbers;
 mod parts;
@@ -14,6 +15,7 @@ mod system;
 
 pub use answers::{answered, by_fence, descriptor, end, laid, verdict};
 pub use bytes::{equal, starts};
+pub use given::{open, path, room, whole_word, word, word_count};
 pub use names::quoted;
 pub use numbers::{fault, line, line_of, number, sentence, status};
 pub use parts::{

@@ -15,7 +15,6 @@ mod totals;
 use counting::Totals;
 use options::Options;
 use pieces::Place;
-use std::fs::File;
 use std::io;
 use std::io::{ErrorKind, Read, Seek};
 use std::rt::{Env, Files};
@@ -128,24 +127,15 @@ fn file(
     i: usize,
     o: Options,
 ) -> io::Result<Outcome> {
-    let mut room = options::room();
-    let Ok(n) = rt.arg(i, &mut room) else {
+    let mut room = say::room();
+    let Some(name) = say::whole_word(rt, i, &mut room) else {
         return unread(rt, ErrorKind::InvalidFilename);
     };
-    let name = &room[..n];
     say::quoted(rt, name)?;
     say::end(rt)?;
-    match open(rt, name) {
+    match say::open(rt, i, name) {
         Ok(mut file) => opened(rt, &mut file, o),
         Err(e) => unread(rt, e.kind()),
-    }
-}
-
-// Opens the file of that name. std takes names in UTF-8 alone.
-fn open<R: Files>(rt: &R, name: &[u8]) -> io::Result<R::File> {
-    match str::from_utf8(name) {
-        Ok(path) => File::open(rt, path),
-        Err(_) => Err(io::Error::from(ErrorKind::InvalidData)),
     }
 }
 
@@ -186,6 +176,6 @@ fn main(rt: HostRuntime) -> io::Result<()> {
         );
         return say::text(&rt, b"traffic: wrong usage\n");
     }
-    let tally = files(&rt, o, options::count(&rt))?;
+    let tally = files(&rt, o, say::word_count(&rt))?;
     totals::last_line(&rt, tally)
 }

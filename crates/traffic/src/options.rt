@@ -1,9 +1,6 @@
 // The options in front of the files.
-ghost use Rattle.std.specs.Prelude.{◌≡◌, length};
-
 use crate::kinds;
 use crate::kinds::Meaning;
-use std::env::FillError;
 use std::rt::Env;
 
 // Which messages are shown: those with this fence and of this type. NO_NUMBER and NO_KIND let all through.
@@ -76,35 +73,10 @@ fn digits(s: &[u8], from: usize, base: u32) -> u32 {
     n
 }
 
-// Room for a word. A longer one is no option, no value of one, and no name that the system takes.
-pub(crate) fn room() -> [u8; 4096]
-    ensures { length result ≡ 4096 }
-{
-    [0u8; 4096]
-}
-
-// The bytes of argument i, which need not be text; none where there is no such argument, or it is longer than the room.
-pub(crate) fn word<'a>(rt: &impl Env, i: usize, room: &'a mut [u8]) -> &'a [u8] {
-    match rt.arg(i, room) {
-        Ok(n) => &room[..n],
-        Err(_) => &room[..0],
-    }
-}
-
-// How many arguments there are, the program's own name among them.
-pub(crate) fn count(rt: &impl Env) -> usize {
-    for i in 1..usize::MAX {
-        if let Err(FillError::NotPresent) = rt.arg(i, &mut []) {
-            return i;
-        }
-    }
-    usize::MAX
-}
-
 // The fence that argument i is, in decimal, or in hexadecimal behind 0x.
 fn fence_argument(rt: &impl Env, i: usize) -> u32 {
-    let mut room = room();
-    let word = word(rt, i, &mut room);
+    let mut room = say::room();
+    let word = say::word(rt, i, &mut room);
     if say::starts(word, b"0x") {
         digits(word, 2, 16)
     } else {
@@ -114,7 +86,7 @@ fn fence_argument(rt: &impl Env, i: usize) -> u32 {
 
 // The type that argument i names.
 fn kind_argument(rt: &impl Env, i: usize) -> u32 {
-    kinds::named(word(rt, i, &mut room()))
+    kinds::named(say::word(rt, i, &mut say::room()))
 }
 
 // The options. PROGRESS is the script's, which knows whether somebody looks on.
@@ -153,7 +125,7 @@ fn option_of(word: &[u8]) -> u32 {
 
 // Which option argument i is.
 fn option_argument(rt: &impl Env, i: usize) -> u32 {
-    option_of(word(rt, i, &mut room()))
+    option_of(say::word(rt, i, &mut say::room()))
 }
 
 // With the option in argument `at`; the value of one that has a value is the argument behind it. One that is given twice
@@ -241,7 +213,7 @@ fn nothing_asked() -> Options {
 // The options of this run. What starts with a dash is no file, unless `--` stands before the files: else an option behind
 // a file would be passed over. A filter has no line to pass where only totals are asked.
 pub(crate) fn read(rt: &impl Env) -> Options {
-    let count = count(rt);
+    let count = say::word_count(rt);
     let mut o = all_options(rt, nothing_asked());
     let files = if o.at < count { count - o.at } else { 0 };
     let filter = o.filter;
