@@ -1,5 +1,6 @@
 // For the crew: says of each firmware file whether it is good to load, with the figures behind the verdict, and writes
-// out a part of a good one. A program here has no exit status; the script ./fwparts takes it from the last line.
+// out a part of a good one. It ends with status 0 whatever it found; the script ./fwparts takes its own from the last
+// line.
 #![tactic(auto)]
 
 mod directory;

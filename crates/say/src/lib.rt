@@ -1,6 +1,7 @@
 // The words that programs print: templates with numbers in them, one sentence for each number that says no, the ring's
-// picture, and the versions and parts of firmware files; and the words that programs are given. Nothing says what reaches the system, so what prints
-// has no more to promise than that it ends and does nothing undefined; it answers whether the system took the text.
+// picture, and the versions and parts of firmware files. And the words that programs are given, with the files that they
+// name. Nothing says what reaches the system or comes from it, so what prints or reads has no more to promise than that
+// it ends and does nothing undefined; what prints answers whether the system took the text.
 #![tactic(auto)]
 
 mod answers;

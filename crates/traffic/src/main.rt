@@ -1,5 +1,5 @@
-// For the crew: shows what went over a channel from a record of it, a line a message, with totals. A program here has no
-// exit status; the script ./traffic takes it from the last line.
+// For the crew: shows what went over a channel from a record of it, a line a message, with totals. It ends with status 0
+// whatever it found; the script ./traffic takes its own from the last line.
 #![tactic(auto)]
 
 mod counting;
