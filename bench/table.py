@@ -24,7 +24,7 @@ ARCHIVES = [('libguc', 'libguc.a', 'lib'), ('fast', 'libguc-fast.a', 'lib'), ('v
 PLAIN = {'lib': '(b) call', 'moves': '(b) call, no SSE', 'rep': '(b) call, no SSE, by rep'}
 # At most so many instructions: of the two-word side and of the 260-word side as a multiple of (b) call's, of a dword stored and a dword
 # copied in steps.
-LIMITS = {'libguc': (2.15, 3.85, 80, 57), 'fast': (1.4, 3.0, 80, 57), 'v3': (1.4, 2.0, 80, 57), 'kernel-moves': (1.2, 2.8, 80, 57)}
+LIMITS = {'libguc': (2.3, 4.0, 84, 67), 'fast': (1.4, 3.0, 80, 57), 'v3': (1.4, 2.0, 80, 57), 'kernel-moves': (1.2, 2.8, 80, 57)}
 # Of a wall's calls of any archive: a send or a reply as a multiple of plain C's at 16 and at 256 records, and a reply at 256 records
 # as one of a reply at 16. At 16 most of it is the bytes that are zeroed for the table's copy, by 8 at a time in a kernel.
 WALL_LIMITS = 3.5, 2, 20
