@@ -19,10 +19,6 @@ static void say_result(void)
 	say(" messages, ");
 	say_number(total_dwords);
 	say(" dwords, ");
-	say_number(total_recorded);
-	say(" recorded in ");
-	say_number(recorded_bytes);
-	say(" bytes, ");
 	say_number(wrong);
 	say(" wrong; ");
 	say_number(runs_copied);
@@ -35,6 +31,11 @@ static void say_result(void)
 	say(" and ");
 	say_number(steps_inside);
 	say(" of them inside the archive\n");
+	say("boot: a record: ");
+	say_number(total_recorded);
+	say(" messages in ");
+	say_number(recorded_bytes);
+	say(" bytes\n");
 }
 
 /* Interrupts of both kinds leave nothing of a red zone, however the stack lies. */

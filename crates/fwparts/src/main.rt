@@ -55,19 +55,31 @@ fn judge(
     Ok(class)
 }
 
-// Reads an open file into room of its own, and judges what was read.
+// Reads an open file into the room lent, and judges what was read.
+fn read_and_judge(
+    rt: &(impl Print + Files + Env),
+    file: &mut impl Read,
+    room: &mut [u8],
+    which: usize,
+    o: Options,
+) -> io::Result<u32> {
+    let n = reading::filled(file, room);
+    if reading::ended(rt, file, n, room.len())? {
+        judge(rt, &room[..n], which, o)
+    } else {
+        Ok(verdicts::NOT_READ)
+    }
+}
+
+// An open file, read into room of its own.
 fn opened(
-    rt: &(impl Print + Files + Env + AllocGlobal),
+    rt: &(impl Print + Files + Env),
     file: &mut impl Read,
     which: usize,
     o: Options,
 ) -> io::Result<u32> {
-    let mut room = reading::room(rt.alloc())?;
-    if reading::whole(rt, file, &mut room)? {
-        judge(rt, room.as_slice(), which, o)
-    } else {
-        Ok(verdicts::NOT_READ)
-    }
+    let mut room = reading::room();
+    read_and_judge(rt, file, &mut room, which, o)
 }
 
 // The file that argument i names.
