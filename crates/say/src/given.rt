@@ -1,5 +1,5 @@
 // Words that a program is given, which need not be text, and the files that they name.
-ghost use Rattle.std.specs.Prelude.{◌≡◌, length};
+ghost use Rattle.std.specs.Prelude.{◌≡◌, length, MatchResult, IsUtf8};
 
 use std::env::FillError;
 use std::fs::File;
@@ -40,8 +40,11 @@ pub fn word_count(rt: &impl Env) -> usize {
     usize::MAX
 }
 
-// A file's name as std takes it, which is text.
-pub fn path(name: &[u8]) -> io::Result<&str> {
+// A file's name as std takes it: the name itself, exactly where it is text.
+pub fn path(name: &[u8]) -> io::Result<&str>
+    ensures { MatchResult result (λ text. (text.now ≡ name.now) × IsUtf8 name.now)
+        (λ _. ¬ (IsUtf8 name.now)) }
+{
     match str::from_utf8(name) {
         Ok(text) => Ok(text),
         Err(_) => Err(io::Error::from(ErrorKind::InvalidData)),
