@@ -15,7 +15,7 @@ use Rattle.firmware.specs.Inside.{huc_name, huc_blob, huc_located, huc_number, h
 use Rattle.firmware.specs.Inside.{huc_truncated, manifest_name, manifest_number, part_named}
 use Rattle.firmware.specs.Version.{css_reading, huc_reading, manifest_reading, manifest_version, reading}
 use Rattle.firmware.specs.Private.{outer}
-use Rattle.firmware.specs.declared.bytes.Located.{Located}
+use Rattle.firmware.specs.Bytes.{Location}
 use Rattle.firmware.specs.declared.css.Component.{Component}
 use Rattle.firmware.proofs.Inner.{found-bytes, huc-found}
 use Rattle.firmware.proofs.Lies.{cpd_lies, huc_lies, located-ends}
@@ -32,7 +32,7 @@ use Rattle.agreement.proofs.Seeks.{is_has, none_answers, none_is, image_below, s
 -- ---- inside
 
 -- a location in a part, as one in the outer blob
-module _ (at : ℕ) (l : Located) where
+module _ (at : ℕ) (l : Location) where
   outer-number : (outer at l).code ≡ l.code
   unfolding outer
   outer-number = cases (eqb l.start 0) (λ t. rw t refl) (λ t. rw t refl)
@@ -55,7 +55,7 @@ module _ (at : ℕ) (l : Located) where
 
 module _ (b : List ℕ) (z : Cpd.number b huc_name ≡ 0) where
   -- a component of the image inside
-  abbrev inner : Component → Located
+  abbrev inner : Component → Location
   inner which = Css.located which (huc_blob b)
 
   huc_passes : eqb (Cpd.number b huc_name) 0 ≡ true
@@ -77,11 +77,11 @@ module _ (b : List ℕ) (z : Cpd.number b huc_name ≡ 0) where
       record {
         number = huc-judged;
         reading = huc_read;
-        component_number = λ which. ap (λ (l : Located). l.code) (huc_is which) ∙ outer-number _ (inner which);
-        component_truncated = λ which. ap (λ (l : Located). l.truncated) (huc_is which) ∙ outer-truncated _ (inner which);
-        component_length = λ which. ap (λ (l : Located). l.len) (huc_is which) ∙ outer-length _ (inner which);
-        component_start = λ which n. ap (λ (l : Located). l.start) (huc_is which) ∙ outer-moved _ (inner which) n;
-        not_shown = λ which e. ap (λ (l : Located). l.start) (huc_is which) ∙ outer-stays _ (inner which) e;
+        component_number = λ which. ap (λ (l : Location). l.code) (huc_is which) ∙ outer-number _ (inner which);
+        component_truncated = λ which. ap (λ (l : Location). l.truncated) (huc_is which) ∙ outer-truncated _ (inner which);
+        component_length = λ which. ap (λ (l : Location). l.len) (huc_is which) ∙ outer-length _ (inner which);
+        component_start = λ which n. ap (λ (l : Location). l.start) (huc_is which) ∙ outer-moved _ (inner which) n;
+        not_shown = λ which e. ap (λ (l : Location). l.start) (huc_is which) ∙ outer-stays _ (inner which) e;
       }
 
 module _ (b : List ℕ) (z : Cpd.number b manifest_name ≡ 0) where

@@ -9,7 +9,7 @@ use lib.Dec.{eqb, leb, ltb}
 use borrow.Author.Tests.{eqb-true, le-leb, leb-true, leb-false, lt-leb, le-ltb, lt-ltb, ltb-true, ltb-false, not-false}
 use Rattle.firmware.specs.Bytes.{nowhere, located_at, span}
 use Rattle.firmware.specs.Cpd
-use Rattle.firmware.specs.declared.bytes.Located.{Located}
+use Rattle.firmware.specs.Bytes.{Location}
 use Rattle.firmware.proofs.Tests.{both, both_pass, cases, unmet}
 use Rattle.agreement.specs.Images.{At}
 use Rattle.agreement.specs.Directories.{EntryThere, IsDirectory, entry_at, offset_at, size_at}
@@ -74,7 +74,7 @@ unfolding Cpd.entry_span
 entry-at b i e = rw e
 
 pub part_at :
-    (b : List ℕ) (i : ℕ) (l : Located) → l ≡ located_at 0 false (Cpd.entry_part b (Cpd.entry_start b i))
+    (b : List ℕ) (i : ℕ) (l : Location) → l ≡ located_at 0 false (Cpd.entry_part b (Cpd.entry_start b i))
     → At (offset_at b (entry_at b i)) (size_at b (entry_at b i)) l
 part_at b i l e = rw e (record { accepted = refl; starts = refl; size = omega arith })
 

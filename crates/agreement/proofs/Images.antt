@@ -11,7 +11,7 @@ use denote.Ref.{Bor}
 use Rattle.firmware.specs.Bytes.{PartOf, Span, nowhere, located_at}
 use Rattle.firmware.specs.Css
 use Rattle.firmware.specs.Version.{css_reading, reading}
-use Rattle.firmware.specs.declared.bytes.Located.{Located}
+use Rattle.firmware.specs.Bytes.{Location}
 use Rattle.firmware.specs.declared.css.Component.{Component}
 use Rattle.firmware.specs.declared.css.Component.TheVariants.{Ucode, Rsa, Modulus, Exponent}
 use Rattle.firmware.proofs.Lies.{Accepted, css-accepted, css_lies, ends-at_4s, located-ends}
@@ -20,7 +20,7 @@ use Rattle.firmware.proofs.Tests.{both}
 use Rattle.agreement.specs.Images.{At, EmptyAtStart, ImageParts, Images, IsImage, VeryBytes, e, end_of, h, k, m, s}
 
 -- a location that is nowhere
-pub empty-at-start : (number : ℕ) (t : Bool) (l : Located) → l ≡ located_at number t nowhere → EmptyAtStart number l
+pub empty-at-start : (number : ℕ) (t : Bool) (l : Location) → l ≡ located_at number t nowhere → EmptyAtStart number l
 empty-at-start number t l q = rw q (record { code = refl; at-start = refl; empty = refl })
 
 -- what is handed back for a span is the located bytes, where they lie
@@ -65,7 +65,7 @@ module _ (b : List ℕ) (z : Css.number b ≡ 0) where
   unshown_back which q l = q ∙ rw (is_accepted, lt-leb (4 * s b) (length b) l)
 
   at :
-      (start len : ℕ) (t : Bool) (p : Span) (l : Located) → l ≡ located_at 0 t p → p.from ≡ start → p.to - p.from ≡ len
+      (start len : ℕ) (t : Bool) (p : Span) (l : Location) → l ≡ located_at 0 t p → p.from ≡ start → p.to - p.from ≡ len
       → At start len l
   at start len t p l q f g = rw q (record { accepted = refl; starts = f; size = g })
 

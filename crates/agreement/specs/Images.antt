@@ -5,32 +5,32 @@ use Rattle.std.specs.Borrow.{Bor}
 use Rattle.firmware.specs.Bytes.{PartOf}
 use Rattle.firmware.specs.Css
 use Rattle.firmware.specs.Version.{css_reading}
-use Rattle.firmware.specs.declared.bytes.Located.{Located}
+use Rattle.firmware.specs.Bytes.{Location}
 use Rattle.firmware.specs.declared.css.Component.{Component}
 use Rattle.firmware.specs.declared.css.Component.TheVariants.{Ucode, Rsa, Modulus, Exponent}
 
 -- a location that is answered 0: where it starts, and its bytes
-pub record At (start len : ℕ) (l : Located) : Type 0 where
+pub record At (start len : ℕ) (l : Location) : Type 0 where
   pub accepted : l.code ≡ 0
   pub starts : l.start ≡ start
   pub size : l.len ≡ len
 
 -- where it ends, excluded
-abbrev pub end_of : Located → ℕ
+abbrev pub end_of : Location → ℕ
 end_of l = l.start + l.len
 
 -- 'the empty part at the start of the lent blob', beside a number
-pub record EmptyAtStart (number : ℕ) (l : Located) : Type 0 where
+pub record EmptyAtStart (number : ℕ) (l : Location) : Type 0 where
   pub code : l.code ≡ number
   pub at-start : l.start ≡ 0
   pub empty : l.len ≡ 0
 
 -- the bytes that are located
-abbrev pub bytes_of : List ℕ → Located → List ℕ
+abbrev pub bytes_of : List ℕ → Location → List ℕ
 bytes_of b l = take l.len (drop l.start b)
 
 -- 'handed back as that part of the lent blob': the located bytes, in the blob's own memory, where they lie
-pub record VeryBytes (blob : Bor (List ℕ)) (l : Located) (part : Bor (List ℕ)) : Type 0 where
+pub record VeryBytes (blob : Bor (List ℕ)) (l : Location) (part : Bor (List ℕ)) : Type 0 where
   pub bytes : part.now ≡ bytes_of blob.now l
   pub block : part.ref_ptr.0 ≡ blob.ref_ptr.0
   pub start : part.ref_ptr.1 ≡ l.start + blob.ref_ptr.1

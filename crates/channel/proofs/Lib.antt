@@ -6,3 +6,4 @@ pub mod ReceiveAtOnce
 pub mod Steps
 pub mod AllMoves
 pub mod Wholes
+pub mod Answered

@@ -11,7 +11,7 @@ use lib.Seq.{set_at, append_snoc, take_at}
 use lib.Dec.{eqb, leb, ltb}
 use borrow.Author.Tests.{eqb-true, le-leb, lt-ltb}
 use Rattle.message.specs.Header.{total_length, well_formed}
-use Rattle.ring.specs.AtOnce.{AtOnce, whole_end, whole_receive, receive_by, receive_number}
+use Rattle.ring.specs.AtOnce.{AtOnce, received_end, whole_receive, receive_by, receive_number}
 use Rattle.ring.specs.Numbers.{first_needs, header_number, marked, need, receive_decision, take_decision}
 use Rattle.channel.specs.Outcome.{Outcome}
 use Rattle.ring.specs.Ring.{allowed, head, status, tail}
@@ -19,7 +19,7 @@ use Rattle.runs.specs.Buffer.{window}
 use Rattle.channel.specs.State.{State, active_receive, header, idle, idle_at, second}
 use Rattle.channel.specs.Steps.{moves, move_after}
 use Rattle.channel.specs.Receive
-use Rattle.ring.specs.declared.sending.WholeEnd.{WholeEnd}
+use Rattle.ring.specs.declared.receiving.WholeReceive.{WholeReceive}
 use Rattle.ring.proofs.Chains.{ok, tested}
 use Rattle.message.proofs.Tests.{cases}
 use Rattle.channel.proofs.Fits.{busy_active_receive, idle_same}
@@ -228,9 +228,9 @@ receive-at-once s o d b =
 
 -- what the code of a whole receive at once says of the steps
 pub receive_method :
-    (s : State) (o d b : List ℕ) (fits : Bool) (r : WholeEnd) (d' o' : List ℕ)
-    → fits ≡ idle (length b) s → whole_end r d' b o' ≡ whole_receive fits s.own o d b
-    → Receive.whole s o d b ≡ receive_outcome s (whole_end r d' b o')
+    (s : State) (o d b : List ℕ) (fits : Bool) (r : WholeReceive) (d' o' : List ℕ)
+    → fits ≡ idle (length b) s → received_end r d' b o' ≡ whole_receive fits s.own o d b
+    → Receive.whole s o d b ≡ receive_outcome s (received_end r d' b o')
 receive_method s o d b fits r d' o' f e =
     receive-at-once s o d b ∙ ap (λ (t : Bool). receive_outcome s (whole_receive t s.own o d b)) (sym f)
     ∙ ap (receive_outcome s) (sym e)

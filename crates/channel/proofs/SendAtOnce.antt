@@ -11,7 +11,7 @@ use lib.Seq.{take_all}
 use lib.Dec.{eqb, leb, ltb}
 use borrow.Author.Tests.{eqb-true, eq-eqb, le-leb, lt-ltb}
 use Rattle.message.proofs.Formed.{message-formed, message-length, message_long, message-short}
-use Rattle.ring.specs.AtOnce.{AtOnce, whole_end, whole_send, send_by}
+use Rattle.ring.specs.AtOnce.{AtOnce, own_after, sent_end, whole_send, send_by}
 use Rattle.ring.specs.Numbers.{first_needs, marked, need}
 use Rattle.channel.specs.Outcome.{Outcome}
 use Rattle.ring.specs.Ring.{TAIL}
@@ -19,7 +19,9 @@ use Rattle.runs.specs.Buffer.{stored}
 use Rattle.channel.specs.State.{State, active_send, idle, idle_at}
 use Rattle.channel.specs.Steps.{moves, move_after}
 use Rattle.channel.specs.Send
-use Rattle.ring.specs.declared.sending.WholeEnd.{WholeEnd}
+use Rattle.std.proofs.Common.{Result}
+use Rattle.refusal.specs.declared.Refusal.{Refusal}
+use Rattle.refusal.specs.Numbers.{number_of}
 use Rattle.ring.proofs.Chains.{tested}
 use Rattle.message.proofs.Tests.{cases}
 use Rattle.channel.proofs.Fits.{idle_same}
@@ -137,12 +139,18 @@ send-at-once s m d b =
 
 -- what the code of a whole send at once says of the steps
 pub send_method :
-    (s : State) (m d b : List ℕ) (fits : Bool) (r : WholeEnd) (d' b' : List ℕ)
-    → fits ≡ idle (length b) s → whole_end r d' b' [] ≡ whole_send fits s.own m d b
+    (s : State) (m d b : List ℕ) (fits : Bool) (r : Result ℕ Refusal) (d' b' : List ℕ)
+    → fits ≡ idle (length b) s → sent_end s.own r d' b' ≡ whole_send fits s.own m d b
     → Send.whole s m d b
-    ≡ record { code = r.code; len = 0; next = cond (eqb r.code 0) (idle_at s.n r.own) s; desc = d'; buf = b'; out = [] }
+    ≡ record {
+      code = number_of r;
+      len = 0;
+      next = cond (eqb (number_of r) 0) (idle_at s.n (own_after s.own r)) s;
+      desc = d';
+      buf = b';
+      out = [];
+    }
 unfolding send_by
 send_method s m d b fits r d' b' f e =
-    let z : r.len ≡ 0 = ap (λ (x : AtOnce). x.len) e in
     send-at-once s m d b ∙ ap (λ (t : Bool). send_outcome s (whole_send t s.own m d b)) (sym f)
-    ∙ ap (send_outcome s) (sym e) ∙ rw z
+    ∙ ap (send_outcome s) (sym e)

@@ -1,13 +1,13 @@
 -- What the proofs of a receive's publish share. Assumes nothing.
 use Prim.Native.Nat.{ℕ, zero, suc, ◌-◌, ◌≤◌}
 use mathlib.Core.Path.{◌≡◌, refl, sym, ap, ◌∙◌}
-use mathlib.Core.Bool.{Bool, true, false, not, ◌&&◌, ◌||◌, true≢false}
+use mathlib.Core.Bool.{true, false, ◌||◌, true≢false}
 use mathlib.Core.List.{List, [], ◌∷◌, ◌++◌}
 use native.Mathlib.Omega.{arith}
 use lib.ListN.{length, get_or, take, drop}
 use lib.Seq.{length-take-le}
 use lib.Dec.{eqb, leb}
-use borrow.Author.Tests.{leb-true, eqb-true, ne_eqb}
+use borrow.Author.Tests.{leb-true, ne_eqb}
 use Rattle.message.specs.Header.{well_formed}
 use Rattle.message.proofs.Formed.{well_formed_fact}
 use Rattle.channel.specs.State.{State, active_receive, header, second}
@@ -16,23 +16,6 @@ use Rattle.ring.proofs.Chains.{passed, passed_rest, entered_fits, entered_rest}
 use Rattle.runs.specs.Buffer.{laid}
 use Rattle.runs.proofs.Straight.{laid-there}
 use Rattle.channel.proofs.Going.{Going, going_receive, receive_active}
-
--- whether a receive's publish moves HEAD: its number is 0 or 13
-pub moves-head : (c : ℕ) (t : Bool) → (not (eqb c 0) && not (eqb c 13)) ≡ t → (eqb c 0 || eqb c 13) ≡ not t
-moves-head c t e = go (eqb c 0) (eqb c 13) e
-  where
-    go : (a b : Bool) → (not a && not b) ≡ t → (a || b) ≡ not t
-    go true b e = ap not e
-    go false true e = ap not e
-    go false false e = ap not e
-
--- a number that moves HEAD and is not 13
-pub moves-none : (c : ℕ) → (not (eqb c 0) && not (eqb c 13)) ≡ false → (c ≡ 13 → ⊥) → c ≡ 0
-moves-none c e n = eqb-true c 0 (go (eqb c 0) (eqb c 13) (ne_eqb c 13 n) e)
-  where
-    go : (a b : Bool) → b ≡ false → (not a && not b) ≡ false → a ≡ true
-    go true b q e = refl
-    go false b q e = sym (rw q at e)
 
 -- no other number is 0 or 13
 other : (k c : ℕ) → (eqb c 0 || eqb c 13) ≡ true → (eqb k 0 || eqb k 13) ≡ false → eqb k c ≡ false

@@ -2,6 +2,7 @@
 use Rattle.std.specs.Prelude.{ℕ, cond, List, length, replicate, eqb}
 use Rattle.ring.specs.Ring.{allowed}
 use Rattle.channel.specs.State.{State, idle_at, of_sender, of_receiver}
+use Rattle.refusal.specs.Numbers.{number_of}
 use Rattle.ring.specs.Numbers.{need}
 use Rattle.channel.specs.declared.opening.Opened.{Opened}
 
@@ -15,7 +16,7 @@ pub record Opening : Type 0 where
 
 -- the opening in the answer struct, with the lent memory as the call leaves it
 abbrev pub opened : Opened → List ℕ → List ℕ → Opening
-opened r d b = record { code = r.code; sender = of_sender r.sender; receiver = of_receiver r.receiver; desc = d; buf = b }
+opened r d b = record { code = number_of r.answer; sender = of_sender r.sender; receiver = of_receiver r.receiver; desc = d; buf = b }
 
 -- 'It refuses by 1, then 2'
 unfoldable pub open_number : ℕ → ℕ → ℕ

@@ -2,6 +2,7 @@
 use Rattle.std.specs.Prelude.{ℕ, Bool, true, ◌&&◌, List, [], ◌∷◌, get_or, replicate, eqb, leb, ltb}
 use Rattle.message.specs.Header.{total_length, well_formed}
 use Rattle.channel.specs.declared.state.Counts.{Counts}
+use Rattle.channel.specs.declared.state.SideState.{SideState}
 use Rattle.channel.specs.declared.sending.Sender.{Sender}
 use Rattle.channel.specs.declared.receiving.Receiver.{Receiver}
 
@@ -24,12 +25,15 @@ counts_of s = record { n = s.n; own = s.own; len = s.len; moved = s.moved }
 abbrev pub counted : Counts → List ℕ → State
 counted c copy = state c.n c.own c.len c.moved copy
 
--- the state in each struct: the same five fields
-unfoldable pub of_sender : Sender → State
-of_sender s = record { n = s.n; own = s.own; len = s.len; moved = s.moved; copy = s.copy }
+-- the state in the struct: the same five fields
+unfoldable pub of_state : SideState → State
+of_state s = record { n = s.n; own = s.own; len = s.len; moved = s.moved; copy = s.copy }
 
-unfoldable pub of_receiver : Receiver → State
-of_receiver s = record { n = s.n; own = s.own; len = s.len; moved = s.moved; copy = s.copy }
+abbrev pub of_sender : Sender → State
+of_sender s = of_state s.state
+
+abbrev pub of_receiver : Receiver → State
+of_receiver s = of_state s.state
 
 -- a copy of all zeros
 unfoldable pub zeros : List ℕ

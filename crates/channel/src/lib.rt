@@ -2,12 +2,14 @@
 // receiver, with states by value.
 #![tactic(auto)]
 
+mod handing;
 mod opening;
 mod receiving;
 mod sending;
 mod state;
 
-pub use opening::{Opened, clear, open_channel, open_number};
-pub use receiving::{Laid, Received, Receiver, Stepped};
-pub use sending::{Sender, Sent};
-pub use state::{Counts, fits_idle, no_copy, publish_number, receiving_number, sending_number};
+pub use handing::{Received, Sent, Stepped};
+pub use opening::{Opened, open_channel, open_needs};
+pub use receiving::Receiver;
+pub use sending::Sender;
+pub use state::{Counts, SideState, no_copy};

@@ -1,39 +1,32 @@
 // Opening a channel.
-ghost use Rattle.std.specs.Prelude.{◌≡◌, length, replicate};
+ghost use Rattle.std.specs.Prelude.{◌≡◌};
+ghost use Rattle.refusal.specs.Numbers.{number_of};
 ghost use Rattle.channel.specs.Opening.{opened, opening, open_number};
 
 use crate::receiving::Receiver;
 use crate::sending::Sender;
-use ring::{DESCRIPTOR_DWORDS, allowed, need, refusal};
+use refusal::Refusal;
+use ring::{DESCRIPTOR_DWORDS, allowed};
 
-// What opening answers.
+// What opening answers, and both sides: those of a refused opening fit no call.
 #[derive(Clone, Copy)]
 pub struct Opened {
-    pub code: u32,
+    pub answer: Result<(), Refusal>,
     pub sender: Sender,
     pub receiver: Receiver,
 }
 
 // 1, then 2, with the lengths of the descriptor and the buffer.
-pub fn open_number(descriptor: usize, n: usize) -> u32
-    ensures { result ≡ open_number descriptor n }
+pub fn open_needs(descriptor: usize, n: usize) -> Result<(), Refusal>
+    ensures { number_of result ≡ open_number descriptor n }
 {
-    need(
-        descriptor == DESCRIPTOR_DWORDS,
-        refusal::BAD_DESCRIPTOR,
-        need(allowed(n), refusal::BAD_BUFFER, 0),
-    )
-}
-
-// Makes the words all zeros.
-pub fn clear(words: &mut [u32])
-    ensures { words.new ≡ replicate (length words.old) 0 }
-{
-    let mut i = 0;
-    while i < words.len() {
-        words[i] = 0;
-        i += 1;
+    if descriptor != DESCRIPTOR_DWORDS {
+        return Err(Refusal::BadDescriptor);
     }
+    if !allowed(n) {
+        return Err(Refusal::BadBuffer);
+    }
+    Ok(())
 }
 
 // Opens a channel over a lent descriptor and buffer: the descriptor is zeroed, and both sides are idle at offset 0.
@@ -42,17 +35,16 @@ pub fn clear(words: &mut [u32])
 pub fn open_channel(desc: &mut [u32], buf: &[u32]) -> Opened
     ensures { opened result desc.new buf.now ≡ opening desc.old buf.now }
 {
-    let code = open_number(desc.len(), buf.len());
-    if code != 0 {
+    if let Err(reason) = open_needs(desc.len(), buf.len()) {
         return Opened {
-            code: code,
+            answer: Err(reason),
             sender: Sender::idle_at(0, 0),
             receiver: Receiver::idle_at(0, 0),
         };
     }
-    clear(desc);
+    desc.fill(0);
     Opened {
-        code: 0,
+        answer: Ok(()),
         sender: Sender::idle_at(buf.len(), 0),
         receiver: Receiver::idle_at(buf.len(), 0),
     }

@@ -1,27 +1,66 @@
-// When a state fits, and the numbers of the steps that go on. All of it is judged on plain numbers: a state's four
+// When a state fits, and why a step that goes on is refused. All of it is judged on plain numbers: a state's four
 // counts and the first dwords of its copy, each taken once by whoever keeps the state.
 ghost use Rattle.std.specs.Prelude.{◌≡◌, [], ◌∷◌, ◌&&◌, ◌+◌, ◌*◌, ◌<◌, ◌^◌, length, get_or};
-ghost use Rattle.channel.specs.State.{counted, zeros, all_zero, idle, active_send, active_receive};
+ghost use Rattle.refusal.specs.Numbers.{number_of};
+ghost use Rattle.channel.specs.State.{of_state, counts_of, counted, zeros, all_zero};
+ghost use Rattle.channel.specs.State.{idle_at, idle, active_send, active_receive};
 ghost use Rattle.ring.specs.Numbers.{need, first_needs};
 ghost use Rattle.channel.specs.Receive.{publish_number_of};
 
 use message::MESSAGE_MAX;
-use ring::{first_needs, need, refusal};
+use refusal::Refusal;
+use ring::first_needs;
 
-// The numbers of a state, beside its copy.
+// What a side keeps between its steps: the n dwords of the buffer that it was made for, and its own offset. Mid-call it
+// has its own copy of a message of len dwords, of which moved are in the buffer, or out of it.
 #[derive(Clone, Copy)]
-pub struct Counts {
+pub struct SideState {
     pub n: usize,
     pub own: usize,
     pub len: usize,
     pub moved: usize,
+    pub copy: [u32; MESSAGE_MAX],
+}
+
+impl SideState {
+    // The idle state made for n dwords, at an own offset.
+    pub fn idle_at(n: usize, own: usize) -> Self
+        ensures { of_state result ≡ idle_at n own }
+    {
+        Self {
+            n,
+            own,
+            len: 0,
+            moved: 0,
+            copy: no_copy(),
+        }
+    }
+
+    // The state's numbers.
+    pub(crate) fn counts(&self) -> Counts
+        ensures { result ≡ counts_of (of_state self.now) }
+    {
+        Counts {
+            n: self.n,
+            own: self.own,
+            len: self.len,
+            moved: self.moved,
+        }
+    }
+
+    // Whether the state is idle and fits a buffer of n dwords.
+    pub(crate) fn is_idle(&self, n: usize) -> bool
+        ensures { result ≡ idle n (of_state self.now) }
+    {
+        self.counts().fits_idle(n, &self.copy)
+    }
 }
 
 // Two dwords as one number, which the compiler loads at once.
 fn pair(low: u32, high: u32) -> u64
     ensures { result ≡ low + high * 2 ^ 32 }
 {
-    (low as u64) + (high as u64) * 0x1_0000_0000
+    u64::from(low) + u64::from(high) * 0x1_0000_0000
 }
 
 // Dwords 2k and 2k + 1.
@@ -45,13 +84,11 @@ fn parts_zero(p: &[u32], q: &[u32], r: &[u32], t: &[u32], pairs: usize) -> bool
     let mut b: u64 = 0;
     let mut c: u64 = 0;
     let mut d: u64 = 0;
-    let mut k = 0;
-    while k < pairs {
-        a = a | pair_at(p, k);
-        b = b | pair_at(q, k);
-        c = c | pair_at(r, k);
-        d = d | pair_at(t, k);
-        k += 1;
+    for k in 0..pairs {
+        a |= pair_at(p, k);
+        b |= pair_at(q, k);
+        c |= pair_at(r, k);
+        d |= pair_at(t, k);
     }
     (a | b | c | d) == 0
 }
@@ -60,13 +97,7 @@ fn parts_zero(p: &[u32], q: &[u32], r: &[u32], t: &[u32], pairs: usize) -> bool
 fn rest_zero(s: &[u32]) -> bool
     ensures { result ≡ all_zero s.now }
 {
-    let mut joined: u32 = 0;
-    let mut i = 0;
-    while i < s.len() {
-        joined = joined | s[i];
-        i += 1;
-    }
-    joined == 0
+    s.iter().all(|x| *x == 0)
 }
 
 // Whether the dwords are all 0.
@@ -94,105 +125,129 @@ pub fn no_copy() -> [u32; MESSAGE_MAX]
     [0; MESSAGE_MAX]
 }
 
-// Whether a state is idle and fits a buffer of n dwords.
-pub fn fits_idle(n: usize, s: Counts, copy: &[u32]) -> bool
-    ensures { result ≡ idle n (counted s copy.now) }
+// What a step that goes on needs: 1, 2, 3, then 12 where its own test fails.
+fn step_needs(descriptor: usize, n: usize, fits: bool, test: bool) -> Result<(), Refusal>
+    ensures { number_of result ≡ first_needs descriptor n fits (need test 12 0) }
 {
-    (s.n == n) & (s.own < n) & (s.len == 0) & (s.moved == 0) & all_zero(copy)
+    first_needs(descriptor, n, fits)?;
+    if !test {
+        return Err(Refusal::OutOfTurn);
+    }
+    Ok(())
 }
 
-// Whether a state is an active sender's and fits, by the first two dwords of its copy.
-fn fits_sending(n: usize, s: Counts, header: u32, word: u32) -> bool
-    ensures { result ≡ active_send n (counted s (header ∷ word ∷ [])) }
-{
-    if s.n != n {
-        return false;
-    }
-    if n <= s.own {
-        return false;
-    }
-    if s.len < 2 {
-        return false;
-    }
-    if MESSAGE_MAX < s.len {
-        return false;
-    }
-    if s.len < s.moved {
-        return false;
-    }
-    if s.len != message::total_length(header) {
-        return false;
-    }
-    message::well_formed(header, word)
+// The numbers of a state, beside its copy.
+#[derive(Clone, Copy)]
+pub struct Counts {
+    pub n: usize,
+    pub own: usize,
+    pub len: usize,
+    pub moved: usize,
 }
 
-// Whether a state is an active receiver's and fits, by the header in its copy.
-fn fits_receiving(n: usize, s: Counts, header: u32) -> bool
-    ensures { result ≡ active_receive n (counted s (header ∷ [])) }
-{
-    if s.n != n {
-        return false;
+impl Counts {
+    // Whether the state is idle and fits a buffer of n dwords.
+    pub fn fits_idle(self, n: usize, copy: &[u32]) -> bool
+        ensures { result ≡ idle n (counted self copy.now) }
+    {
+        (self.n == n) & (self.own < n) & (self.len == 0) & (self.moved == 0) & all_zero(copy)
     }
-    if n <= s.own {
-        return false;
-    }
-    if s.len != message::total_length(header) {
-        return false;
-    }
-    if s.moved < 1 {
-        return false;
-    }
-    s.moved <= s.len
-}
 
-// The number of a step that goes on with a send: 1, 2, 3, then 12 where its own test fails.
-pub fn sending_number(
-    s: Counts,
-    header: u32,
-    word: u32,
-    descriptor: usize,
-    n: usize,
-    test: bool,
-) -> u32
-    ensures { result ≡ first_needs descriptor n (active_send n (counted s (header ∷ word ∷ []))) (need test 12 0) }
-{
-    first_needs(
-        descriptor,
-        n,
-        fits_sending(n, s, header, word),
-        need(test, refusal::OUT_OF_TURN, 0),
-    )
-}
+    // Whether the state is an active sender's and fits, by the first two dwords of its copy.
+    fn fits_sending(self, n: usize, header: u32, word: u32) -> bool
+        ensures { result ≡ active_send n (counted self (header ∷ word ∷ [])) }
+    {
+        if self.n != n {
+            return false;
+        }
+        if n <= self.own {
+            return false;
+        }
+        if self.len < 2 {
+            return false;
+        }
+        if MESSAGE_MAX < self.len {
+            return false;
+        }
+        if self.len < self.moved {
+            return false;
+        }
+        if self.len != message::total_length(header) {
+            return false;
+        }
+        message::well_formed(header, word)
+    }
 
-// The number of a step that goes on with a receive: 1, 2, 3, then the later tests.
-pub fn receiving_number(s: Counts, header: u32, descriptor: usize, n: usize, later: u32) -> u32
-    ensures { result ≡ first_needs descriptor n (active_receive n (counted s (header ∷ []))) later }
-{
-    first_needs(descriptor, n, fits_receiving(n, s, header), later)
-}
+    // Whether the state is an active receiver's and fits, by the header in its copy.
+    fn fits_receiving(self, n: usize, header: u32) -> bool
+        ensures { result ≡ active_receive n (counted self (header ∷ [])) }
+    {
+        if self.n != n {
+            return false;
+        }
+        if n <= self.own {
+            return false;
+        }
+        if self.len != message::total_length(header) {
+            return false;
+        }
+        if self.moved < 1 {
+            return false;
+        }
+        self.moved <= self.len
+    }
 
-// The number of a receive's publish: 5, 12, then 13, by the first two dwords of the copy.
-pub fn publish_number(
-    s: Counts,
-    header: u32,
-    second: u32,
-    output: usize,
-    descriptor: usize,
-    n: usize,
-) -> u32
-    ensures { result ≡ publish_number_of (counted s (header ∷ second ∷ [])) output descriptor n }
-{
-    let formed = message::well_formed(header, second);
-    let later = need(
-        s.len <= s.moved,
-        refusal::OUT_OF_TURN,
-        need(formed, refusal::MALFORMED, 0),
-    );
-    receiving_number(
-        s,
-        header,
-        descriptor,
-        n,
-        need(MESSAGE_MAX <= output, refusal::SHORT_OUTPUT, later),
-    )
+    // What a step that goes on with a send needs, with whether its own test holds.
+    pub fn sending_needs(
+        self,
+        header: u32,
+        word: u32,
+        descriptor: usize,
+        n: usize,
+        test: bool,
+    ) -> Result<(), Refusal>
+        ensures { number_of result
+            ≡ first_needs descriptor n (active_send n (counted self (header ∷ word ∷ []))) (need test 12 0) }
+    {
+        step_needs(descriptor, n, self.fits_sending(n, header, word), test)
+    }
+
+    // The same of a step that goes on with a receive.
+    pub fn receiving_needs(
+        self,
+        header: u32,
+        descriptor: usize,
+        n: usize,
+        test: bool,
+    ) -> Result<(), Refusal>
+        ensures { number_of result
+            ≡ first_needs descriptor n (active_receive n (counted self (header ∷ []))) (need test 12 0) }
+    {
+        step_needs(descriptor, n, self.fits_receiving(n, header), test)
+    }
+
+    // What a receive's publish needs: 1, 2 and 3, then 5, 12 and 13, by the first two dwords of the copy.
+    pub fn publish_needs(
+        self,
+        header: u32,
+        second: u32,
+        output: usize,
+        descriptor: usize,
+        n: usize,
+    ) -> Result<(), Refusal>
+        ensures { number_of result
+            ≡ publish_number_of (counted self (header ∷ second ∷ [])) output descriptor n }
+    {
+        first_needs(descriptor, n, self.fits_receiving(n, header))?;
+        if output < MESSAGE_MAX {
+            return Err(Refusal::ShortOutput);
+        }
+        if self.moved < self.len {
+            return Err(Refusal::OutOfTurn);
+        }
+        if !message::well_formed(header, second) {
+            return Err(Refusal::Malformed);
+        }
+        Ok(())
+    }
 }

@@ -9,9 +9,9 @@ mod steps;
 mod turned_away;
 mod wording;
 
-// The scenes, each on channels of its own.
 use std::io;
 
+// The scenes, each on channels of its own.
 fn main(rt: HostRuntime) -> io::Result<()> {
     foreword(&rt)?;
     filling::fresh_and_full(&rt)?;
@@ -25,15 +25,14 @@ fn main(rt: HostRuntime) -> io::Result<()> {
 
 // What a reader of the lines has to know.
 fn foreword(rt: &impl Print) -> io::Result<()> {
-    say::text(
-        rt,
-        b"A sender stores messages in a ring of 1024 places, one dword in each; a\n\
-          receiver takes them out in order.\n\
-          A message has a number, its fence, and a length of 2 to 256 dwords.\n\
-          HEAD is the next place to read, TAIL the next to write; after place 1023\n\
-          comes place 0. One place stays free, so that a full ring never looks empty.\n\
-          STATUS 0 is good, any other is broken.\n\
-          A refused call leaves all as it was, but 7, 8 and 9 set STATUS, and 13 moves\n\
-          HEAD past the message.\n",
+    rt.print(
+        "A sender stores messages in a ring of 1024 places, one dword in each; a\n\
+         receiver takes them out in order.\n\
+         A message has a number, its fence, and a length of 2 to 256 dwords.\n\
+         HEAD is the next place to read, TAIL the next to write; after place 1023\n\
+         comes place 0. One place stays free, so that a full ring never looks empty.\n\
+         STATUS 0 is good, any other is broken.\n\
+         A refused call leaves all as it was, but 7, 8 and 9 set STATUS, and 13 moves\n\
+         HEAD past the message.\n",
     )
 }

@@ -1,6 +1,8 @@
 -- A self-test that follows from demand 3: open a channel, send a message whole, receive it whole.
 use Rattle.std.specs.Prelude.{ℕ, ◌≡◌, Bool, true, ◌&&◌, cond, List, ◌++◌, length, drop, leb}
 use Rattle.message.specs.Header.{is_message}
+use Rattle.refusal.specs.Numbers.{number_of}
+use Rattle.ring.specs.AtOnce.{len_of}
 use Rattle.ring.specs.Ring.{allowed}
 use Rattle.ring.specs.Numbers.{need}
 use Rattle.channel.specs.Outcome.{Outcome}
@@ -43,7 +45,15 @@ loop d b m o =
 -- in the answer struct, with the lent memory as the call leaves it
 abbrev pub looped : Looped → List ℕ → List ℕ → List ℕ → Loop
 looped r d b o =
-    record { opened = r.opened; sent = r.sent; received = r.received; len = r.len; desc = d; buf = b; out = o }
+    record {
+      opened = number_of r.opened;
+      sent = number_of r.sent;
+      received = number_of r.received;
+      len = len_of r.received;
+      desc = d;
+      buf = b;
+      out = o;
+    }
 
 -- it can come back: it is a message, and the output is long enough
 abbrev pub can_come_back : List ℕ → List ℕ → Bool

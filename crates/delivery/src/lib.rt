@@ -4,9 +4,12 @@
 #![tactic(auto)]
 
 ghost use Rattle.std.specs.Prelude.{◌≡◌};
+ghost use Rattle.refusal.specs.Numbers.{number_of};
 ghost use Rattle.delivery.specs.Demand.{Demand3};
 ghost use Rattle.delivery.specs.HalfWhole.{HalfWhole};
 ghost use Rattle.delivery.specs.Loopback.{loop, looped, ComesBack};
+
+use refusal::Refusal;
 
 // Does nothing: it is here for its contract, so that nothing passes the gate without the theorem.
 pub fn demand_3()
@@ -18,13 +21,12 @@ pub fn half_whole()
     ensures { HalfWhole }
 {}
 
-// What the loopback answers: the numbers of the three calls, and the length of the message that came back.
+// What the loopback's three calls answer; the last has the length of the message that came back.
 #[derive(Clone, Copy)]
 pub struct Looped {
-    pub opened: u32,
-    pub sent: u32,
-    pub received: u32,
-    pub len: usize,
+    pub opened: Result<(), Refusal>,
+    pub sent: Result<(), Refusal>,
+    pub received: Result<usize, Refusal>,
 }
 
 // Opens a channel, sends a message whole and receives it whole. On a channel that opens, the message comes back dword
@@ -32,19 +34,18 @@ pub struct Looped {
 pub fn loopback(desc: &mut [u32], buf: &mut [u32], msg: &[u32], out: &mut [u32]) -> Looped
     ensures out_after { looped result desc.new buf.new out.new
         ≡ loop desc.old buf.old msg.now out.old }
-    ensures comes_back { result.opened ≡ 0
+    ensures comes_back { number_of result.opened ≡ 0
         → ComesBack msg.now out.old
         (looped result desc.new buf.new out.new) }
 {
     let start = channel::open_channel(desc, &buf[..]);
-    let sender = start.sender;
-    let receiver = start.receiver;
+    let mut sender = start.sender;
+    let mut receiver = start.receiver;
     let sent = sender.send(desc, buf, msg);
     let received = receiver.receive(desc, &buf[..], out);
     Looped {
-        opened: start.code,
-        sent: sent.code,
-        received: received.code,
-        len: received.len,
+        opened: start.answer,
+        sent,
+        received,
     }
 }

@@ -1,6 +1,7 @@
 // Firmware files: an image judged and handed out in parts, files put in its place, a directory with an image in it, and
 // one that has the image's name twice.
 use firmware::Sizes;
+use say::{ManifestVersion, Part, Quoted, Verdict};
 use stage::{Room, cut};
 use std::io;
 
@@ -17,17 +18,16 @@ fn image(h: usize) -> Room {
 
 // A file by its length: what it is answered, and where its parts lie.
 fn judged(rt: &impl Print, blob: &[u8]) -> io::Result<()> {
-    say::one(rt, b"  A file of % bytes", blob.len() as u64)?;
+    print!(rt; "  A file of {} bytes", blob.len())?;
     say::image(rt, blob)
 }
 
 // One image, and what is put in its place.
 pub(crate) fn images(rt: &impl Print) -> io::Result<()> {
-    say::text(
-        rt,
-        b"\n9. A firmware file is judged, and judged afresh when it is swapped\n\
-          \x20 An image with sizes in dwords: all but uCode 35, all 40, and 1 each of RSA,\n\
-          \x20 modulus and exponent; then its first bytes only, then all but uCode 36\n",
+    rt.print(
+        "\n9. A firmware file is judged, and judged afresh when it is swapped\n\
+         \x20 An image with sizes in dwords: all but uCode 35, all 40, and 1 each of RSA,\n\
+         \x20 modulus and exponent; then its first bytes only, then all but uCode 36\n",
     )?;
     let good = image(35);
     judged(rt, cut(&good, 160))?;
@@ -43,35 +43,28 @@ fn directory(first: &[u8]) -> Room {
 
 // A name sought in a directory.
 fn sought(rt: &impl Print, blob: &[u8], name: &[u8]) -> io::Result<()> {
-    say::text(rt, b"  Seek ")?;
-    say::quoted(rt, name)?;
-    let l = firmware::cpd_located(blob, name);
-    say::verdict(rt, l.code)?;
-    if l.code == 0 {
-        say::text(rt, b", ")?;
-        say::part(rt, l)?;
+    let answer = firmware::cpd_located(blob, name);
+    print!(rt; "  Seek {}{}", Quoted(name), Verdict::of(&answer))?;
+    match answer {
+        Ok(l) => println!(rt; ", {}", Part(l)),
+        Err(_) => println!(rt; ""),
     }
-    say::end(rt)
 }
 
 // The image that a directory has under huc_fw.
 fn image_inside(rt: &impl Print, blob: &[u8]) -> io::Result<()> {
-    say::text(rt, b"  The image in huc_fw, as a file of its own")?;
+    print!(rt; "  The image in huc_fw, as a file of its own")?;
     say::inner_image(rt, blob)
 }
 
 // A directory, its parts, and the image in one of them.
 pub(crate) fn directories(rt: &impl Print) -> io::Result<()> {
-    say::text(
-        rt,
-        b"\n10. A code partition directory, with an image in it\n",
-    )?;
+    println!(rt; "\n10. A code partition directory, with an image in it")?;
     let file = directory(b"HUCP.man");
     let blob = cut(&file, 272);
     sought(rt, blob, b"HUCP.man")?;
-    say::text(rt, b"  The manifest's version: ")?;
-    say::manifest_version(rt, firmware::manifest_version(blob))?;
-    say::end(rt)?;
+    let version = ManifestVersion(firmware::manifest_version(blob));
+    println!(rt; "  The manifest's version: {version}")?;
     sought(rt, blob, b"huc")?;
     image_inside(rt, blob)?;
     doubled(rt)
@@ -79,10 +72,7 @@ pub(crate) fn directories(rt: &impl Print) -> io::Result<()> {
 
 // The same with huc_fw as the name of both entries.
 fn doubled(rt: &impl Print) -> io::Result<()> {
-    say::text(
-        rt,
-        b"  Swapped for a file in which both entries are named huc_fw\n",
-    )?;
+    println!(rt; "  Swapped for a file in which both entries are named huc_fw")?;
     let file = directory(b"huc_fw");
     image_inside(rt, cut(&file, 272))
 }

@@ -3,9 +3,9 @@ use Rattle.std.specs.Prelude.{ℕ, List, [], ◌∷◌, ◌++◌, map, length, t
 use Rattle.record.specs.Faults.{unfinished, missing, too_long, above, bad_direction, bad_length, bad_header}
 use Rattle.record.specs.Numbers.{bytes_of, bytes_of_run, number_of, good, faulty}
 use Rattle.record.specs.Calls.{write_answer, write_leaves, read_answer, read_leaves, add_answer, add_leaves, write_bound}
-use Rattle.record.specs.declared.reading.ReadBack.{ReadBack}
-use Rattle.record.specs.declared.writing.Written.{Written}
-use Rattle.record.specs.declared.adding.Added.{Added}
+use Rattle.record.specs.Calls.{ReadBack}
+use Rattle.record.specs.Calls.{Written}
+use Rattle.record.specs.Calls.{Added}
 use Rattle.examples.specs.Example.{Example, ◌is◌, Each}
 use Rattle.examples.specs.Inputs.{dwords, untouched}
 

@@ -12,10 +12,10 @@ use Rattle.firmware.specs.Css
 use Rattle.firmware.specs.Cpd
 use Rattle.firmware.specs.Inside.{huc_name, part_named, huc_blob, huc_number, huc_truncated, huc_span, huc_located, within}
 use Rattle.firmware.specs.Private.{outer}
-use Rattle.firmware.specs.declared.bytes.Located.{Located}
+use Rattle.firmware.specs.Bytes.{Location}
 use Rattle.firmware.specs.declared.css.Component.{Component}
 use Rattle.firmware.proofs.Nowhere.{name-nowhere}
-use Rattle.firmware.proofs.Lies.{cpd_lies, located-span, shown-beyond}
+use Rattle.firmware.proofs.Lies.{cpd_lies, located-code, located-span, shown-beyond}
 
 -- a span in the image, told by the code from where it starts, is the one that is shown
 chosen :
@@ -38,28 +38,33 @@ outer-located at which i =
     chosen at (Css.number i) (Css.truncated i) (Css.shown which i) (Css.span_of which (Css.sizes i))
     (λ e. (shown-beyond i which e).after)
 
+-- an image that is refused is nowhere in the directory's blob too
+pub outer-nowhere : (at k : ℕ) → outer at (located_at k false nowhere) ≡ located_at k false nowhere
+unfolding outer
+outer-nowhere at k = refl
+
 -- the bytes of a part that is found
 pub found-bytes :
-    (b name : List ℕ) {f : Located} → f ≡ Cpd.located b name
+    (b name : List ℕ) {f : Location} → f ≡ Cpd.located b name
     → bytes b (span f.start (f.start + f.len)) ≡ part_named b name
 found-bytes b name e = ap (bytes b) (located-span (length b) (Cpd.part b name) (cpd_lies b name) (Cpd.number b name) false e)
 
 -- what is found under `huc_fw`
-module _ (b : List ℕ) (which : Component) {f : Located} (e : f ≡ Cpd.located b huc_name) where
-  pub huc-refused : (f.code ≡ 0 → ⊥) → f ≡ huc_located which b
+module _ (b : List ℕ) (which : Component) {f : Location} (e : f ≡ Cpd.located b huc_name) where
+  pub huc-refused : eqb f.code 0 ≡ false → f ≡ huc_located which b
   unfolding huc_number huc_truncated huc_span
   huc-refused z =
-      let number : eqb (Cpd.number b huc_name) 0 ≡ false = ne_eqb (Cpd.number b huc_name) 0 (λ q. z (rw e q)) in
+      let number : eqb (Cpd.number b huc_name) 0 ≡ false = rw (located-code _ _ _ e) z in
       let part : Cpd.part b huc_name ≡ nowhere = name-nowhere b huc_name number in
       e ∙ simp (number, part)
 
   pub huc-found :
-      {l : Located} → f.code ≡ 0 → l ≡ Css.located which (bytes b (span f.start (f.start + f.len)))
+      {l : Location} → f.code ≡ 0 → l ≡ Css.located which (bytes b (span f.start (f.start + f.len)))
       → outer f.start l ≡ huc_located which b
   unfolding huc_number huc_truncated huc_span
   huc-found {l} z q =
       let number : eqb (Cpd.number b huc_name) 0 ≡ true =
-      eq-eqb (Cpd.number b huc_name) 0 (sym (ap (λ (x : Located). x.code) e) ∙ z) in
+      eq-eqb (Cpd.number b huc_name) 0 (sym (ap (λ (x : Location). x.code) e) ∙ z) in
       let inner : l ≡ Css.located which (huc_blob b) = rw (found-bytes b huc_name e) at q in
-      let starts : f.start ≡ (Cpd.part b huc_name).from = ap (λ (x : Located). x.start) e in
+      let starts : f.start ≡ (Cpd.part b huc_name).from = ap (λ (x : Location). x.start) e in
       rw (inner, starts) (outer-located (Cpd.part b huc_name).from which (huc_blob b) ∙ simp number)

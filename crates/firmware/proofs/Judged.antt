@@ -10,7 +10,7 @@ use borrow.Author.Tests.{eq-eqb, ne_eqb, lt-ltb, le-ltb, le-leb, leb-true, leb-f
 use Rattle.firmware.specs.Bytes.{Span, span, nowhere, located_at}
 use Rattle.firmware.specs.Css
 use Rattle.firmware.specs.Private.{rank}
-use Rattle.firmware.specs.declared.bytes.Located.{Located}
+use Rattle.firmware.specs.Bytes.{Location}
 use Rattle.firmware.specs.declared.css.Sizes.{Sizes}
 use Rattle.firmware.specs.declared.css.Component.{Component}
 use Rattle.firmware.specs.declared.css.Component.TheVariants.{Ucode, Rsa, Modulus, Exponent}
@@ -51,7 +51,7 @@ abbrev exponent : Sizes → ℕ
 exponent z = modulus z + 4 * z.m
 
 -- what the code hands out for a component that needs so many bytes
-abbrev handed : ℕ → Sizes → ℕ → Span → Located
+abbrev handed : ℕ → Sizes → ℕ → Span → Location
 handed n z needed p = located_at 0 (ltb n (4 * z.s)) (cond (leb needed n) p nowhere)
 
 -- a blob of n bytes whose header says the sizes z

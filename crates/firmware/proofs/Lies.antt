@@ -12,8 +12,8 @@ use Rattle.firmware.specs.Css
 use Rattle.firmware.specs.Cpd
 use Rattle.firmware.specs.Inside.{huc_name, huc_blob, huc_span}
 use Rattle.firmware.specs.Private.{table_of}
-use Rattle.firmware.specs.declared.bytes.Located.{Located}
-use Rattle.firmware.specs.declared.cpd.Table.{Table}
+use Rattle.firmware.specs.Bytes.{Location}
+use Rattle.firmware.specs.Private.{TableRead}
 use Rattle.firmware.specs.declared.css.Sizes.{Sizes}
 use Rattle.firmware.specs.declared.css.Component.{Component}
 use Rattle.firmware.specs.declared.css.Component.TheVariants.{Ucode, Rsa, Modulus, Exponent}
@@ -24,14 +24,14 @@ pub record Lies (n : ℕ) (p : Span) : Type 0 where
   pub begins : p.from ≤ p.to
   pub ends : p.to ≤ n
 
-pub located-code : (k : ℕ) (t : Bool) (p : Span) {l : Located} → l ≡ located_at k t p → k ≡ l.code
+pub located-code : (k : ℕ) (t : Bool) (p : Span) {l : Location} → l ≡ located_at k t p → k ≡ l.code
 located-code k t p e = rw e
 
-pub located-truncated : (k : ℕ) (t : Bool) (p : Span) {l : Located} → l ≡ located_at k t p → t ≡ l.truncated
+pub located-truncated : (k : ℕ) (t : Bool) (p : Span) {l : Location} → l ≡ located_at k t p → t ≡ l.truncated
 located-truncated k t p e = rw e
 
 -- a location of a part that lies within n bytes
-module _ (n : ℕ) (p : Span) (h : Lies n p) (k : ℕ) (t : Bool) {l : Located} (e : l ≡ located_at k t p) where
+module _ (n : ℕ) (p : Span) (h : Lies n p) (k : ℕ) (t : Bool) {l : Location} (e : l ≡ located_at k t p) where
   pub located-ends : l.start + l.len ≤ n
   located-ends = rw e (omega arith)
 
@@ -116,7 +116,7 @@ table_lies b =
     room (eqb (Cpd.directory_number b) 0) (Cpd.header_length b) (Cpd.count b) (length b)
     (λ e. entries-there b (eqb-true (Cpd.directory_number b) 0 e))
 
-pub table-room : (b : List ℕ) {t : Table} → t ≡ table_of b → t.start + 24 * t.count ≤ length b
+pub table-room : (b : List ℕ) {t : TableRead} → t ≡ table_of b → t.start + 24 * t.count ≤ length b
 table-room b e = rw e (table_lies b)
 
 -- the part of a name lies within the blob: it was judged by 21 last

@@ -1,23 +1,22 @@
 -- The figures beside a number: what each path of the code answers is what the definitions say. Assumes nothing.
 use Prim.Native.Nat.{ℕ, ◌+◌, ◌*◌, ◌≤◌, ◌<◌}
 use mathlib.Core.Path.{◌≡◌, refl, sym, ap, subst, ◌∙◌}
-use mathlib.Core.Bool.{Bool, true, false, ◌&&◌, cond}
-use mathlib.Core.List.{List, [], ◌∷◌}
-use native.Mathlib.Omega.{arith}
+use mathlib.Core.Bool.{true, false, ◌&&◌, cond}
+use mathlib.Core.List.{List}
 use lib.ListN.{length}
 use lib.Dec.{eqb, leb, ltb}
-use borrow.Author.Tests.{eq-eqb, ne_eqb, eqb-true, ltb-true, ltb-false, lt-ltb, le-ltb, le-leb, lt-leb}
+use borrow.Author.Tests.{eq-eqb, eqb-true, ltb-true, ltb-false, lt-ltb, le-ltb, le-leb, lt-leb}
 use Rattle.firmware.specs.Bytes.{span, bytes}
 use Rattle.firmware.specs.Css
 use Rattle.firmware.specs.Cpd
 use Rattle.firmware.specs.Inside.{manifest_name, huc_name, huc_blob, huc_number, part_named, manifest_number}
 use Rattle.firmware.specs.Figures.{figures, short, unmeasured, measured, image_needs, image_figures}
 use Rattle.firmware.specs.Figures.{entries_end, directory_figures, part_end, entry_figures, manifest_figures, huc_figures}
-use Rattle.firmware.specs.declared.figures.Figures.{Figures}
+use Rattle.firmware.specs.Figures.{Measures}
 use Rattle.firmware.specs.Private.{table_of}
-use Rattle.firmware.specs.declared.bytes.Located.{Located}
+use Rattle.firmware.specs.Bytes.{Location}
 use Rattle.firmware.specs.declared.css.Sizes.{Sizes}
-use Rattle.firmware.specs.declared.cpd.Table.{Table}
+use Rattle.firmware.specs.Private.{TableRead}
 use Rattle.firmware.proofs.Lies.{cpd_lies, located-code, length-bytes}
 use Rattle.firmware.proofs.Read.{table-code, table-start, table-count}
 use Rattle.firmware.proofs.Inner.{found-bytes}
@@ -40,21 +39,8 @@ module _ (b : List ℕ) (l : 128 ≤ length b) {z : Sizes} (s : z ≡ Css.sizes 
       (λ t. simp (le-ltb (length b) 128 l, ← s, a, t))
       (λ t. simp (le-ltb (length b) 128 l, ← s, a, t))
 
--- fewer than four bytes have no marker: its last byte is not there
-not_both : (t : Bool) → false ≡ (t && false)
-not_both true = refl
-not_both false = refl
-
-pub no_marker : (b : List ℕ) → length b < 4 → false ≡ Cpd.has_marker b
-unfolding Cpd.has_marker
-no_marker [] l = refl
-no_marker (a ∷ []) l = not_both (eqb a 0x24 && false && false)
-no_marker (a ∷ e ∷ []) l = not_both (eqb a 0x24 && eqb e 0x43 && false)
-no_marker (a ∷ e ∷ f ∷ []) l = not_both (eqb a 0x24 && eqb e 0x43 && eqb f 0x50)
-no_marker (a ∷ e ∷ f ∷ g ∷ b) l = absurd (omega arith)
-
 -- a directory's number says which figures stand beside it
-abbrev figures_by : ℕ → ℕ → ℕ → Figures
+abbrev figures_by : ℕ → ℕ → ℕ → Measures
 figures_by n needed there =
     cond (eqb n 15) (short 20 there) (cond (eqb n 18) (unmeasured 18 there) (figures n needed needed there))
 
@@ -65,17 +51,17 @@ by_number n needed there =
     (λ f. let z : n ≡ 15 = eqb-true n 15 f in rw z)
     (λ f. cases (eqb n 18) (λ g. let z : n ≡ 18 = eqb-true n 18 g in rw z) (λ g. simp (f, g)))
 
-module _ (b : List ℕ) {t : Table} (e : t ≡ table_of b) where
+module _ (b : List ℕ) {t : TableRead} (e : t ≡ table_of b) where
   pub table-figures : figures t.code t.needed t.needed (length b) ≡ directory_figures b
   unfolding table_of directory_figures
   table-figures = rw e (by_number (Cpd.directory_number b) (entries_end b) (length b))
 
   -- an entry of a directory that is refused, and of one that is accepted
-  pub entry-refused : (i : ℕ) → (t.code ≡ 0 → ⊥) → figures t.code t.needed t.needed (length b) ≡ entry_figures b i
+  pub entry-refused : (i : ℕ) → eqb t.code 0 ≡ false → figures t.code t.needed t.needed (length b) ≡ entry_figures b i
   unfolding entry_figures
   entry-refused i z =
-      let d = table-code b e in
-      simp (ne_eqb (Cpd.directory_number b) 0 (λ q. z (sym d ∙ q))) table-figures
+      let d : eqb (Cpd.directory_number b) 0 ≡ false = rw (table-code b e) z in
+      simp d table-figures
 
   module _ (z : t.code ≡ 0) (i : ℕ) where
     own : eqb (Cpd.directory_number b) 0 ≡ true
@@ -92,18 +78,18 @@ module _ (b : List ℕ) {t : Table} (e : t ≡ table_of b) where
     entry-measured l start len o s = simp (own, table-count b e z, table-start b e z, lt-leb t.count i l, ← o, ← s)
 
 -- a part that is sought: where it is not handed out nothing is measured
-module _ (b name : List ℕ) {f : Located} (e : f ≡ Cpd.located b name) where
+module _ (b name : List ℕ) {f : Location} (e : f ≡ Cpd.located b name) where
   sought : f.code ≡ 0 → eqb (Cpd.number b name) 0 ≡ true
   sought z = eq-eqb (Cpd.number b name) 0 (located-code (Cpd.number b name) false (Cpd.part b name) e ∙ z)
 
-  not_sought : (f.code ≡ 0 → ⊥) → eqb (Cpd.number b name) 0 ≡ false
-  not_sought z = ne_eqb (Cpd.number b name) 0 (λ q. z (rw e q))
+  not_sought : eqb f.code 0 ≡ false → eqb (Cpd.number b name) 0 ≡ false
+  not_sought z = rw (located-code (Cpd.number b name) false (Cpd.part b name) e) z
 
   part_length : length (part_named b name) ≡ f.len
-  part_length = length-bytes b (Cpd.part b name) (cpd_lies b name) ∙ sym (ap (λ (x : Located). x.len) e)
+  part_length = length-bytes b (Cpd.part b name) (cpd_lies b name) ∙ sym (ap (λ (x : Location). x.len) e)
 
-module _ (b : List ℕ) {f : Located} (e : f ≡ Cpd.located b manifest_name) where
-  pub manifest_refused : (f.code ≡ 0 → ⊥) → unmeasured f.code 0 ≡ manifest_figures b
+module _ (b : List ℕ) {f : Location} (e : f ≡ Cpd.located b manifest_name) where
+  pub manifest_refused : eqb f.code 0 ≡ false → unmeasured f.code 0 ≡ manifest_figures b
   unfolding manifest_figures
   manifest_refused z = simp (not_sought b manifest_name e z) (rw e)
 
@@ -111,13 +97,13 @@ module _ (b : List ℕ) {f : Located} (e : f ≡ Cpd.located b manifest_name) wh
   unfolding measured manifest_figures manifest_number
   manifest_measured z = simp (sought b manifest_name e z, part_length b manifest_name e)
 
-module _ (b : List ℕ) {f : Located} (e : f ≡ Cpd.located b huc_name) where
-  pub huc-refused : (f.code ≡ 0 → ⊥) → unmeasured f.code 0 ≡ huc_figures b
+module _ (b : List ℕ) {f : Location} (e : f ≡ Cpd.located b huc_name) where
+  pub huc-refused : eqb f.code 0 ≡ false → unmeasured f.code 0 ≡ huc_figures b
   unfolding huc_figures
   huc-refused z = simp (not_sought b huc_name e z) (rw e)
 
   pub huc-measured :
-      f.code ≡ 0 → {r : Figures} → r ≡ image_figures (bytes b (span f.start (f.start + f.len)))
+      f.code ≡ 0 → {r : Measures} → r ≡ image_figures (bytes b (span f.start (f.start + f.len)))
       → r ≡ huc_figures b
   unfolding huc_figures
   huc-measured z q = simp (sought b huc_name e z) (rw (found-bytes b huc_name e) at q)
@@ -157,7 +143,7 @@ huc-code b = cases (eqb (Cpd.number b huc_name) 0) (λ f. simp f (image_code (hu
 
 -- ---- where a number is not 0, bytes are missing or none are asked for
 
-pub record Missing (f : Figures) : Type 0 where
+pub record Missing (f : Measures) : Type 0 where
   pub missing : (f.code ≡ 0 → ⊥) → (f.needed ≡ 0 → ⊥) → f.there < f.needed
 
 none_asked : (n there : ℕ) → Missing (unmeasured n there)

@@ -1,7 +1,9 @@
 -- Numbers in a blob, parts of a lent blob, and numbers that are judged one after another (document 01, 'Firmware
 -- images' and 'The numbers that say no').
-use Rattle.std.specs.Prelude.{ℕ, ◌+◌, ◌-◌, ◌*◌, ◌≡◌, Bool, cond, List, get_or, take, drop, eqb}
+use Rattle.std.specs.Prelude.{ℕ, ◌+◌, ◌-◌, ◌*◌, ◌≡◌, Bool, false, cond, List, get_or, take, drop, eqb, Result, Ok, Err}
 use Rattle.std.specs.Borrow.{Bor}
+use Rattle.refusal.specs.declared.Refusal.{Refusal}
+use Rattle.refusal.specs.Numbers.{number}
 use Rattle.firmware.specs.declared.bytes.Located.{Located}
 
 -- 'All numbers are little-endian.': the number of two bytes, and of four, from byte at on
@@ -33,9 +35,22 @@ pub record PartOf (b : Bor (List ℕ)) (p : Span) (r : Bor (List ℕ)) : Type 0 
   pub same_block : r.ref_ptr.0 ≡ b.ref_ptr.0
   pub same_start : r.ref_ptr.1 ≡ p.from + b.ref_ptr.1
 
+-- what one judgement says of a part: 0 or the number that refuses it, whether its image is truncated, and the part's
+-- first byte and length
+pub record Location : Type 0 where
+  pub code : ℕ
+  pub truncated : Bool
+  pub start : ℕ
+  pub len : ℕ
+
 -- a part by its first byte and length, beside the number that its judgement gives and whether that says truncated
-abbrev pub located_at : ℕ → Bool → Span → Located
+abbrev pub located_at : ℕ → Bool → Span → Location
 located_at n truncated p = record { code = n; truncated = truncated; start = p.from; len = p.to - p.from }
+
+-- an answer in code as such a judgement: one that is refused is nowhere, and says no truncated
+abbrev pub of_located : Result Located Refusal → Location
+of_located (Ok l) = record { code = 0; truncated = l.truncated; start = l.start; len = l.len }
+of_located (Err r) = located_at (number r) false nowhere
 
 -- a number, or where it is 0 the one that is judged after it
 abbrev pub then : ℕ → ℕ → ℕ

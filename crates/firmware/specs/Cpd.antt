@@ -1,8 +1,9 @@
 -- Code partition directories (document 01, 'Firmware images', and document 02, T-03): seeking a name, and where its
 -- part lies.
-use Rattle.std.specs.Prelude.{ℕ, zero, suc, ◌+◌, ◌*◌, ◌%◌, ◌^◌, Bool, true, false, not, ◌&&◌, cond, List, length, get_or, eqb, leb, ltb}
-use Rattle.firmware.specs.Bytes.{Span, dword_at, span, nowhere, located_at, then}
-use Rattle.firmware.specs.declared.bytes.Located.{Located}
+use Rattle.std.specs.Prelude.{ℕ, zero, suc, ◌+◌, ◌*◌, ◌%◌, ◌^◌, Bool, true, false, not, ◌&&◌, cond, List, length, get_or, eqb, leb, ltb, Result, Ok, Err}
+use Rattle.refusal.specs.declared.Refusal.{Refusal}
+use Rattle.refusal.specs.Numbers
+use Rattle.firmware.specs.Bytes.{Location, Span, dword_at, span, nowhere, located_at, then}
 use Rattle.firmware.specs.declared.cpd.Directory.{Directory}
 
 -- whether p holds of every number below n
@@ -94,7 +95,7 @@ unfoldable pub part : List ℕ → List ℕ → Span
 part b name = cond (eqb (number b name) 0) (entry_part b (entry_start b (first_entry b name))) nowhere
 
 -- the whole judgement of a name sought
-abbrev pub located : List ℕ → List ℕ → Located
+abbrev pub located : List ℕ → List ℕ → Location
 located b name = located_at (number b name) false (part b name)
 
 -- ours, for a list of all entries: entry i by its index: 15, 18 and 19, then 20 where there is no such entry, then 21.
@@ -105,12 +106,21 @@ entry_number b i = then (directory_number b) (cond (leb (count b) i) 20 (part_nu
 unfoldable pub entry_span : List ℕ → ℕ → Span
 entry_span b i = cond (eqb (entry_number b i) 0) (entry_part b (entry_start b i)) nowhere
 
-abbrev pub entry_located : List ℕ → ℕ → Located
+abbrev pub entry_located : List ℕ → ℕ → Location
 entry_located b i = located_at (entry_number b i) false (entry_span b i)
 
 -- ours: what a directory has, whatever is sought: its number and, where that is 0, how many entries
-unfoldable pub entries_of : List ℕ → Directory
+pub record Entries : Type 0 where
+  pub code : ℕ
+  pub count : ℕ
+
+unfoldable pub entries_of : List ℕ → Entries
 entries_of b = record { code = directory_number b; count = cond (eqb (directory_number b) 0) (count b) 0 }
+
+-- an answer in code as such a one
+abbrev pub of_directory : Result Directory Refusal → Entries
+of_directory (Ok d) = record { code = 0; count = d.count }
+of_directory (Err r) = record { code = Numbers.number r; count = 0 }
 
 -- ours: where the twelve bytes of the name of entry i lie
 unfoldable pub name_span : List ℕ → ℕ → Span

@@ -1,7 +1,8 @@
 -- CSS images (document 01, 'Firmware images'): the judgement, and where each component lies.
-use Rattle.std.specs.Prelude.{ℕ, ◌+◌, ◌-◌, ◌*◌, Bool, not, ◌&&◌, cond, List, length, eqb, leb, ltb}
-use Rattle.firmware.specs.Bytes.{Span, dword_at, span, nowhere, located_at}
-use Rattle.firmware.specs.declared.bytes.Located.{Located}
+use Rattle.std.specs.Prelude.{ℕ, ◌+◌, ◌-◌, ◌*◌, Bool, not, ◌&&◌, cond, List, length, eqb, leb, ltb, false, Result, Ok, Err}
+use Rattle.refusal.specs.declared.Refusal.{Refusal}
+use Rattle.refusal.specs.Numbers
+use Rattle.firmware.specs.Bytes.{Location, Span, dword_at, span, nowhere, located_at}
 use Rattle.firmware.specs.declared.css.Sizes.{Sizes}
 use Rattle.firmware.specs.declared.css.ImageAnswer.{ImageAnswer}
 use Rattle.firmware.specs.declared.css.Component.{Component}
@@ -63,9 +64,18 @@ unfoldable pub part : Component → List ℕ → Span
 part which b = cond (shown which b) (span_of which (sizes b)) nowhere
 
 -- the whole judgement of an image of which that component is asked
-abbrev pub located : Component → List ℕ → Located
+abbrev pub located : Component → List ℕ → Location
 located which b = located_at (number b) (truncated b) (part which b)
 
--- the answer alone
-abbrev pub answer : List ℕ → ImageAnswer
+-- the answer alone: 0 or the number that refuses an image, and whether it is accepted and truncated
+pub record Answer : Type 0 where
+  pub code : ℕ
+  pub truncated : Bool
+
+abbrev pub answer : List ℕ → Answer
 answer b = record { code = number b; truncated = truncated b }
+
+-- an answer in code as such a one
+abbrev pub of_answer : Result ImageAnswer Refusal → Answer
+of_answer (Ok a) = record { code = 0; truncated = a.truncated }
+of_answer (Err r) = record { code = Numbers.number r; truncated = false }

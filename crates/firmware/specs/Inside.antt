@@ -2,11 +2,9 @@
 -- is judged only after the directory's own numbers, 14 to 21, have passed', 22 among them since document 02's T-03:
 -- 'The manifest and CSS readings inside a directory pass 22 on and promise it.').
 use Rattle.std.specs.Prelude.{ℕ, ◌+◌, Bool, ◌&&◌, cond, List, [], ◌∷◌, length, eqb, ltb}
-use Rattle.firmware.specs.Bytes.{Span, span, nowhere, bytes, located_at, then}
+use Rattle.firmware.specs.Bytes.{Location, Span, span, nowhere, bytes, located_at, then}
 use Rattle.firmware.specs.Css
 use Rattle.firmware.specs.Cpd
-use Rattle.firmware.specs.declared.bytes.Located.{Located}
-use Rattle.firmware.specs.declared.css.ImageAnswer.{ImageAnswer}
 use Rattle.firmware.specs.declared.css.Component.{Component}
 
 -- `HUCP.man` and `huc_fw`, in ASCII
@@ -34,7 +32,7 @@ huc_number b = then (Cpd.number b huc_name) (Css.number (huc_blob b))
 unfoldable pub huc_truncated : List ℕ → Bool
 huc_truncated b = eqb (Cpd.number b huc_name) 0 && Css.truncated (huc_blob b)
 
-abbrev pub huc_answer : List ℕ → ImageAnswer
+abbrev pub huc_answer : List ℕ → Css.Answer
 huc_answer b = record { code = huc_number b; truncated = huc_truncated b }
 
 -- a span in a part that starts at byte start, as one in the directory's blob
@@ -50,5 +48,5 @@ huc_span which b =
     nowhere
 
 -- the whole judgement of the image of which that component is asked
-abbrev pub huc_located : Component → List ℕ → Located
+abbrev pub huc_located : Component → List ℕ → Location
 huc_located which b = located_at (huc_number b) (huc_truncated b) (huc_span which b)

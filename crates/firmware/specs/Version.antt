@@ -1,12 +1,12 @@
 -- Versions (document 01, 'Firmware images'), and what each version reading answers by the paper's numbers.
-use Rattle.std.specs.Prelude.{ℕ, ◌/◌, ◌%◌, ◌^◌, cond, List, [], ◌∷◌, eqb}
+use Rattle.std.specs.Prelude.{ℕ, ◌/◌, ◌%◌, ◌^◌, cond, List, [], ◌∷◌, eqb, Result, Ok, Err}
+use Rattle.refusal.specs.declared.Refusal.{Refusal}
+use Rattle.refusal.specs.Numbers.{number}
 use Rattle.firmware.specs.Bytes.{word_at}
 use Rattle.firmware.specs.Css
 use Rattle.firmware.specs.Inside.{manifest_name, manifest_number, huc_number, huc_blob, part_named}
 use Rattle.firmware.specs.declared.version.Version.{Version}
-use Rattle.firmware.specs.declared.version.Version.TheVariants as css
 use Rattle.firmware.specs.declared.version.ManifestVersion.{ManifestVersion}
-use Rattle.firmware.specs.declared.version.ManifestVersion.TheVariants as manifest
 
 -- a reading: 0 with the version's numbers in their order, or the refusal's number; 'a refused version reading no
 -- version'
@@ -37,10 +37,10 @@ unfoldable pub huc_reading : List ℕ → Reading
 huc_reading b = reading (huc_number b) (css_version (huc_blob b))
 
 -- the paper's number and values for each case of the answers in code
-unfoldable pub of_version : Version → Reading
-of_version (css.Known major minor patch) = record { number = 0; version = major ∷ minor ∷ patch ∷ [] }
-of_version (css.Refused n) = record { number = n; version = [] }
+unfoldable pub of_version : Result Version Refusal → Reading
+of_version (Ok v) = record { number = 0; version = v.major ∷ v.minor ∷ v.patch ∷ [] }
+of_version (Err r) = record { number = number r; version = [] }
 
-unfoldable pub of_manifest : ManifestVersion → Reading
-of_manifest (manifest.Known major minor hotfix build) = record { number = 0; version = major ∷ minor ∷ hotfix ∷ build ∷ [] }
-of_manifest (manifest.Refused n) = record { number = n; version = [] }
+unfoldable pub of_manifest : Result ManifestVersion Refusal → Reading
+of_manifest (Ok v) = record { number = 0; version = v.major ∷ v.minor ∷ v.hotfix ∷ v.build ∷ [] }
+of_manifest (Err r) = record { number = number r; version = [] }

@@ -1,12 +1,13 @@
 // CSS firmware images: the judgement, and each component as a part of the lent blob.
 ghost use Rattle.std.specs.Prelude.{◌≡◌, cond, ◌+◌, ◌*◌, ◌≤◌, ◌<◌, ◌^◌, length, leb};
-ghost use Rattle.firmware.specs.Bytes.{PartOf, span, nowhere, located_at};
+ghost use Rattle.firmware.specs.Bytes.{PartOf, span, nowhere, located_at, of_located};
 ghost use Rattle.firmware.specs.declared.css.Component.TheVariants.{Ucode, Rsa, Modulus, Exponent};
 ghost use Rattle.firmware.specs.Css;
+ghost use Rattle.firmware.specs.Css.{of_answer};
 ghost use Rattle.firmware.specs.Private.{Small, LocatedBy, rank};
 
-use crate::bytes::{Located, dword_at, part, refused};
-use crate::refusal;
+use crate::bytes::{Located, dword_at, part};
+use refusal::Refusal;
 
 // 'CSS: at least 128 bytes': what the header has.
 pub(crate) const HEADER_BYTES: usize = 128;
@@ -26,7 +27,7 @@ const E_AT: usize = 4 * 9;
 pub(crate) const VERSION_AT: usize = 4 * 16;
 
 // The parts of an image beside its header, in their order.
-#[derive(Clone, Copy)]
+#[derive(Clone, Copy, Debug, PartialEq, Eq)]
 pub enum Component {
     Ucode,
     Rsa,
@@ -34,16 +35,14 @@ pub enum Component {
     Exponent,
 }
 
-// What an image is answered: 0 or the number that refuses it, and whether it is accepted without its modulus and
-// exponent.
-#[derive(Clone, Copy)]
+// What an image that is accepted is answered: whether it is without its modulus and exponent.
+#[derive(Clone, Copy, Debug, PartialEq, Eq)]
 pub struct ImageAnswer {
-    pub code: u32,
     pub truncated: bool,
 }
 
 // The sizes in an image's header, in dwords.
-#[derive(Clone, Copy)]
+#[derive(Clone, Copy, Debug, PartialEq, Eq)]
 pub struct Sizes {
     pub h: usize,
     pub s: usize,
@@ -71,69 +70,53 @@ pub(crate) fn read_sizes(blob: &[u8]) -> Sizes
     Sizes { h, s, k, m, e }
 }
 
-fn summand(size: usize) -> Sum
-    requires { size < 2 ^ 32 }
-    ensures { (result ≡ size) × (result < 2 ^ 32) }
-{
-    size as Sum
-}
-
 // Whether the sizes agree.
 pub(crate) fn agree(z: Sizes) -> bool
     requires { Small z }
     ensures { result ≡ Css.agree z }
 {
-    let sum = HEADER_DWORDS + summand(z.k) + summand(z.m) + summand(z.e);
-    (summand(z.h) == sum) & (1 <= z.k) & (z.h < z.s)
+    let sum = HEADER_DWORDS + z.k as Sum + z.m as Sum + z.e as Sum;
+    (z.h as Sum == sum) & (1 <= z.k) & (z.h < z.s)
 }
 
 // A component from byte `from` to byte `to` of an accepted image of n bytes, shown where the bytes that it needs are
 // there.
 fn component_located(n: usize, needed: usize, truncated: bool, from: usize, to: usize) -> Located
     requires { from ≤ to }
-    ensures { result ≡ located_at 0 truncated (cond (leb needed n) (span from to) nowhere) }
+    ensures { of_located (Ok result) ≡ located_at 0 truncated (cond (leb needed n) (span from to) nowhere) }
 {
-    if n < needed {
-        return Located {
-            code: 0,
-            truncated,
-            start: 0,
-            len: 0,
-        };
-    }
+    let (start, len) = if n < needed {
+        (0, 0)
+    } else {
+        (from, to - from)
+    };
     Located {
-        code: 0,
         truncated,
-        start: from,
-        len: to - from,
+        start,
+        len,
     }
 }
 
-// Which of the four a component is, in their order. Asked by halves in `judge`, for a match of four is compiled to a
-// jump table.
+// Which of the four a component is, in their order. Asked by halves in `judge`: a match of four is compiled to a jump
+// table, which a kernel's archive may not have (archive/check).
 fn rank(which: Component) -> u32
     ensures { (result ≡ rank which) × (result < 4) }
 {
-    match which {
-        Component::Ucode => 0,
-        Component::Rsa => 1,
-        Component::Modulus => 2,
-        Component::Exponent => 3,
-    }
+    which as u32
 }
 
 // Judges an image of n bytes by the sizes in its header. No blob is lent here, so nothing can be read a second time.
-fn judge(n: usize, z: Sizes, which: Component) -> Located
+fn judge(n: usize, z: Sizes, which: Component) -> Result<Located, Refusal>
     requires { (128 ≤ n) × Small z }
     ensures { LocatedBy n z which result }
 {
     if !agree(z) {
-        return refused(refusal::CSS_SIZES);
+        return Err(Refusal::CssSizes);
     }
     let rsa = HEADER_BYTES + 4 * (z.s - z.h);
     let modulus = rsa + 4 * z.k;
     if n < modulus {
-        return refused(refusal::CSS_BEYOND);
+        return Err(Refusal::CssBeyond);
     }
     let exponent = modulus + 4 * z.m;
     let end = 4 * z.s;
@@ -141,44 +124,41 @@ fn judge(n: usize, z: Sizes, which: Component) -> Located
     let rank = rank(which);
     if rank < 2 {
         if rank < 1 {
-            return component_located(n, modulus, truncated, HEADER_BYTES, rsa);
+            return Ok(component_located(n, modulus, truncated, HEADER_BYTES, rsa));
         }
-        return component_located(n, modulus, truncated, rsa, modulus);
+        return Ok(component_located(n, modulus, truncated, rsa, modulus));
     }
     if rank < 3 {
-        return component_located(n, end, truncated, modulus, exponent);
+        return Ok(component_located(n, end, truncated, modulus, exponent));
     }
-    component_located(n, end, truncated, exponent, end)
+    Ok(component_located(n, end, truncated, exponent, end))
 }
 
-// The one judgement of an image: its answer, and where a component lies.
-pub fn css_located(blob: &[u8], which: Component) -> Located
-    ensures { result ≡ Css.located which blob.now }
+// The one judgement of an image: the number that refuses it, or where a component lies.
+pub fn css_located(blob: &[u8], which: Component) -> Result<Located, Refusal>
+    ensures { of_located result ≡ Css.located which blob.now }
 {
     if blob.len() < HEADER_BYTES {
-        return refused(refusal::SHORT_BLOB);
+        return Err(Refusal::ShortBlob);
     }
-    let z = read_sizes(blob);
-    judge(blob.len(), z, which)
+    judge(blob.len(), read_sizes(blob), which)
 }
 
-// Whether the blob is an image, by number, and whether that is truncated.
-pub fn css_answer(blob: &[u8]) -> ImageAnswer
-    ensures { result ≡ Css.answer blob.now }
+// Whether the blob is an image, and whether that is truncated.
+pub fn css_answer(blob: &[u8]) -> Result<ImageAnswer, Refusal>
+    ensures { of_answer result ≡ Css.answer blob.now }
 {
-    let l = css_located(blob, Component::Ucode);
-    ImageAnswer {
-        code: l.code,
+    let l = css_located(blob, Component::Ucode)?;
+    Ok(ImageAnswer {
         truncated: l.truncated,
-    }
+    })
 }
 
-// A component of an image; the empty part at the start where it is not shown.
+// A component of an image; the empty part at the blob's start where it is not shown.
 pub fn css_part(blob: &[u8], which: Component) -> &[u8]
     ensures { PartOf blob.entry (Css.part which blob.now) result }
 {
-    let l = css_located(blob, which);
-    part(blob, l)
+    part(blob, css_located(blob, which))
 }
 
 // Each component by its name: the empty part at the blob's start where it is not shown.

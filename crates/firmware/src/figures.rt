@@ -1,49 +1,46 @@
 // Bytes needed and bytes there beside each number, for what a crew is told. Each function is one judgement of the lent
 // blob; its number is the one that the calls of css.rt, cpd.rt, huc.rt and version.rt answer.
 ghost use Rattle.std.specs.Prelude.{◌≡◌, ◌<◌, ◌≤◌};
+ghost use Rattle.refusal.specs.Numbers.{number, number_of};
 ghost use Rattle.firmware.specs.Cpd;
-ghost use Rattle.firmware.specs.Figures.{figures, unmeasured, measured, image_figures};
+ghost use Rattle.firmware.specs.Figures.{figures, of_figures, unmeasured, measured, image_figures};
 ghost use Rattle.firmware.specs.Figures.{directory_figures, entry_figures, manifest_figures, huc_figures, header_sizes};
+ghost use Rattle.firmware.specs.Private.{of_table};
 
+use crate::cpd::{self, NoTable, Table};
+use crate::css;
 use crate::version::MANIFEST_MIN;
-use crate::{cpd, css, refusal};
+use refusal::Refusal;
 
-// A number with the bytes that it asks for, those that nothing is left out of, and those that are there, counted from
-// the start of the blob or part judged.
-#[derive(Clone, Copy)]
+// An answer with the bytes that it asks for, those that nothing is left out of, and those that are there, counted from
+// the start of the blob or part judged. A refusal has figures too.
+#[derive(Clone, Copy, Debug, PartialEq, Eq)]
 pub struct Figures {
-    pub code: u32,
+    pub answer: Result<(), Refusal>,
     pub needed: usize,
     pub complete: usize,
     pub there: usize,
 }
 
-// A number that asks for no bytes.
-fn unmeasured(code: u32, there: usize) -> Figures
-    ensures { result ≡ unmeasured code there }
+// A refusal that asks for no bytes.
+fn unmeasured(refusal: Refusal, there: usize) -> Figures
+    ensures { of_figures result ≡ unmeasured (number refusal) there }
 {
     Figures {
-        code,
+        answer: Err(refusal),
         needed: 0,
         complete: 0,
         there,
     }
 }
 
-// A number that is given exactly when fewer bytes are there than needed.
-fn measured(code: u32, needed: usize, complete: usize, there: usize) -> Figures
-    ensures { result ≡ measured code needed complete there }
+// A refusal that is given exactly when fewer bytes are there than needed.
+fn measured(refusal: Refusal, needed: usize, complete: usize, there: usize) -> Figures
+    ensures { of_figures result ≡ measured (number refusal) needed complete there }
 {
-    if there < needed {
-        return Figures {
-            code,
-            needed,
-            complete,
-            there,
-        };
-    }
+    let answer = if there < needed { Err(refusal) } else { Ok(()) };
     Figures {
-        code: 0,
+        answer,
         needed,
         complete,
         there,
@@ -52,11 +49,11 @@ fn measured(code: u32, needed: usize, complete: usize, there: usize) -> Figures
 
 // The figures of an image.
 pub fn css_figures(blob: &[u8]) -> Figures
-    ensures { result ≡ image_figures blob.now }
+    ensures { of_figures result ≡ image_figures blob.now }
 {
     if blob.len() < css::HEADER_BYTES {
         return measured(
-            refusal::SHORT_BLOB,
+            Refusal::ShortBlob,
             css::HEADER_BYTES,
             css::HEADER_BYTES,
             blob.len(),
@@ -64,10 +61,10 @@ pub fn css_figures(blob: &[u8]) -> Figures
     }
     let z = css::read_sizes(blob);
     if !css::agree(z) {
-        return unmeasured(refusal::CSS_SIZES, blob.len());
+        return unmeasured(Refusal::CssSizes, blob.len());
     }
     let needed = css::HEADER_BYTES + 4 * (z.s - z.h) + 4 * z.k;
-    measured(refusal::CSS_BEYOND, needed, 4 * z.s, blob.len())
+    measured(Refusal::CssBeyond, needed, 4 * z.s, blob.len())
 }
 
 // The sizes in an image's header, also where they disagree; all 0 where there is no header.
@@ -90,67 +87,64 @@ pub fn css_sizes(blob: &[u8]) -> css::Sizes
 pub fn cpd_marker(blob: &[u8]) -> bool
     ensures { result ≡ Cpd.has_marker blob.now }
 {
-    if blob.len() < 4 {
-        return false;
-    }
     cpd::has_marker(blob)
 }
 
-// A directory's number, and the bytes that it asks for.
-fn of_table(t: cpd::Table, there: usize) -> Figures
-    ensures { result ≡ figures t.code t.needed t.needed there }
+// What a directory is answered, and the bytes that it asks for.
+fn of_table(t: Result<Table, NoTable>, there: usize) -> Figures
+    ensures { of_figures result ≡ figures (of_table t).code (of_table t).needed (of_table t).needed there }
 {
+    let (answer, needed) = match t {
+        Ok(t) => (Ok(()), t.needed),
+        Err(e) => (Err(e.refusal), e.needed),
+    };
     Figures {
-        code: t.code,
-        needed: t.needed,
-        complete: t.needed,
+        answer,
+        needed,
+        complete: needed,
         there,
     }
 }
 
 // The figures of a directory.
 pub fn cpd_figures(blob: &[u8]) -> Figures
-    ensures { result ≡ directory_figures blob.now }
+    ensures { of_figures result ≡ directory_figures blob.now }
 {
     of_table(cpd::read_table(blob), blob.len())
 }
 
 // The figures of entry i, by its index.
 pub fn cpd_entry_figures(blob: &[u8], i: usize) -> Figures
-    ensures { result ≡ entry_figures blob.now i }
+    ensures { of_figures result ≡ entry_figures blob.now i }
 {
-    let t = cpd::read_table(blob);
-    if t.code != 0 {
-        return of_table(t, blob.len());
-    }
+    let t = match cpd::read_table(blob) {
+        Ok(t) => t,
+        Err(e) => return of_table(Err(e), blob.len()),
+    };
     if t.count <= i {
-        return unmeasured(refusal::NO_ENTRY, blob.len());
+        return unmeasured(Refusal::NoEntry, blob.len());
     }
     let x = cpd::extent_at(blob, t.start + cpd::ENTRY_BYTES * i);
     let end = x.start + x.len;
-    measured(refusal::CPD_BEYOND, end, end, blob.len())
+    measured(Refusal::CpdBeyond, end, end, blob.len())
 }
 
 // The figures of the manifest, the part `HUCP.man` of a directory.
 pub fn manifest_figures(blob: &[u8]) -> Figures
-    ensures { result ≡ manifest_figures blob.now }
+    ensures { of_figures result ≡ manifest_figures blob.now }
 {
-    let f = cpd::cpd_located(blob, b"HUCP.man");
-    if f.code != 0 {
-        return unmeasured(f.code, 0);
+    match cpd::cpd_located(blob, b"HUCP.man") {
+        Ok(f) => measured(Refusal::ShortBlob, MANIFEST_MIN, MANIFEST_MIN, f.len),
+        Err(refusal) => unmeasured(refusal, 0),
     }
-    measured(refusal::SHORT_BLOB, MANIFEST_MIN, MANIFEST_MIN, f.len)
 }
 
 // The figures of the image in the part `huc_fw` of a directory.
 pub fn huc_figures(blob: &[u8]) -> Figures
-    ensures { result ≡ huc_figures blob.now }
+    ensures { of_figures result ≡ huc_figures blob.now }
 {
-    let f = cpd::cpd_located(blob, b"huc_fw");
-    if f.code != 0 {
-        return unmeasured(f.code, 0);
+    match cpd::cpd_located(blob, b"huc_fw") {
+        Ok(f) => css_figures(f.part_of(blob)),
+        Err(refusal) => unmeasured(refusal, 0),
     }
-    let start = f.start;
-    let end = start + f.len;
-    css_figures(&blob[start..end])
 }

@@ -1,6 +1,6 @@
 // Firmware files: the parts and versions of CSS images and of HuC code partition directories (CPD). Public are
-// locations, answers, versions and parts, each from one judgement of the lent blob. A part is a sub-slice of that blob,
-// and a location (number, start, length) says where it lies. Nothing about a blob is kept, and no function takes an
+// locations, answers, versions and parts, each from one judgement of the lent blob, or the refusal that it gives. A part
+// is a sub-slice of that blob, and a location (start and length) says where it lies. Nothing about a blob is kept, and no function takes an
 // offset back.
 #![tactic(auto)]
 
@@ -10,10 +10,9 @@ mod css;
 mod figures;
 mod huc;
 mod name;
-pub mod refusal;
 mod version;
 
-pub use bytes::{Located, byte_at, wide};
+pub use bytes::{Located, byte_at};
 pub use cpd::{
     Directory, cpd_answer, cpd_directory, cpd_entry, cpd_has_name, cpd_located, cpd_name, cpd_part,
 };

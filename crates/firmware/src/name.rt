@@ -1,8 +1,12 @@
 // A name to seek: copied once, zero padded, and judged on the copy. The lent name is not read again.
-ghost use Rattle.std.specs.Prelude.{◌≡◌, ◌+◌, ◌≤◌, length};
-ghost use Rattle.firmware.specs.Private.{Keyed, NameBy, front_at};
+ghost use Rattle.std.specs.Prelude.{◌≡◌, ◌≢◌, ◌+◌, ◌≤◌, ◌↔◌, true, false, length, slice_index, EachIndex, IsTrue, MatchResult};
+ghost use Rattle.refusal.specs.declared.Refusal.TheVariants.{BadField};
+ghost use Rattle.firmware.specs.Cpd;
+ghost use Rattle.firmware.specs.Private.{Keyed, front_at};
 
 use crate::bytes::{byte_at, dword_at};
+use refusal::Refusal;
+use std::array;
 
 // 'name 12 bytes (zero padded)'
 pub(crate) const NAME_BYTES: usize = 12;
@@ -10,33 +14,34 @@ pub(crate) const NAME_BYTES: usize = 12;
 // As many of them, the front, are compared as one number.
 pub(crate) const FRONT_BYTES: usize = 8;
 
-// The first twelve bytes of a name, zero padded.
-pub(crate) fn key_of(name: &[u8]) -> [u8; NAME_BYTES]
-    ensures { Keyed name.now result }
+// Whether none of the bytes is zero.
+fn has_no_zero(s: &[u8]) -> bool
+    ensures { IsTrue result ↔ EachIndex s.now (λ k. slice_index s.now k ≢ 0) }
 {
-    let mut key = [0u8; NAME_BYTES];
-    for j in 0..NAME_BYTES {
-        key[j] = byte_at(name, j);
-    }
-    key
+    s.iter().all(|b| *b != 0)
 }
 
-// Whether a name of so many bytes, copied to the key, is 1 to 12 bytes without a zero.
-pub(crate) fn is_name(key: [u8; NAME_BYTES], len: usize) -> bool
-    ensures { NameBy key len result }
+// The first twelve bytes of a name, zero padded.
+fn padded(name: &[u8]) -> [u8; NAME_BYTES]
+    ensures { Keyed name.now result }
 {
-    if len < 1 {
-        return false;
+    array::from_fn(|j| byte_at(name, j))
+}
+
+// The twelve bytes of a name that may be sought, zero padded: it has 1 to 12 bytes without a zero.
+pub(crate) fn key_of(name: &[u8]) -> Result<[u8; NAME_BYTES], Refusal>
+    ensures { MatchResult result (λ key. (Cpd.is_name name.now ≡ true) × Keyed name.now key)
+        (λ r. (Cpd.is_name name.now ≡ false) × (r ≡ BadField)) }
+{
+    let n = name.len();
+    if n < 1 || NAME_BYTES < n {
+        return Err(Refusal::BadField);
     }
-    if NAME_BYTES < len {
-        return false;
+    let key = padded(name);
+    if !has_no_zero(&key[..n]) {
+        return Err(Refusal::BadField);
     }
-    for j in 0..len {
-        if key[j] == 0 {
-            return false;
-        }
-    }
-    true
+    Ok(key)
 }
 
 // The front of a key as one number.

@@ -6,7 +6,7 @@ ghost use Rattle.firmware.specs.Private.{manifest_in};
 use crate::bytes::{dword_at, word_at};
 use crate::cpd::cpd_located;
 use crate::css::{Component, VERSION_AT, css_located};
-use crate::refusal;
+use refusal::Refusal;
 
 // 'four 16-bit numbers (major, minor, hotfix, build) at byte 36, so 44 bytes are needed'
 const MAJOR_AT: usize = 36;
@@ -19,85 +19,63 @@ const BUILD_AT: usize = 42;
 
 pub(crate) const MANIFEST_MIN: usize = 44;
 
-// The version of a CSS image, or the number that refuses it.
-#[derive(Clone, Copy)]
-pub enum Version {
-    Known { major: u8, minor: u8, patch: u8 },
-    Refused(u32),
+// The version of a CSS image.
+#[derive(Clone, Copy, Debug, PartialEq, Eq)]
+pub struct Version {
+    pub major: u8,
+    pub minor: u8,
+    pub patch: u8,
 }
 
-// The firmware version in a manifest, or the number that refuses it.
-#[derive(Clone, Copy)]
-pub enum ManifestVersion {
-    Known {
-        major: u16,
-        minor: u16,
-        hotfix: u16,
-        build: u16,
-    },
-    Refused(u32),
+// The firmware version in a manifest.
+#[derive(Clone, Copy, Debug, PartialEq, Eq)]
+pub struct ManifestVersion {
+    pub major: u16,
+    pub minor: u16,
+    pub hotfix: u16,
+    pub build: u16,
 }
 
 // The version of a CSS image.
-pub fn css_version(blob: &[u8]) -> Version
+pub fn css_version(blob: &[u8]) -> Result<Version, Refusal>
     ensures { of_version result ≡ css_reading blob.now }
 {
-    let l = css_located(blob, Component::Ucode);
-    let code = l.code;
-    if code != 0 {
-        return Version::Refused(code);
-    }
+    css_located(blob, Component::Ucode)?;
     let v = dword_at(blob, VERSION_AT);
-    Version::Known {
+    Ok(Version {
         major: (v / 0x1_0000 % 0x100) as u8,
         minor: (v / 0x100 % 0x100) as u8,
         patch: (v % 0x100) as u8,
-    }
+    })
 }
 
 // The version in a manifest.
-fn version_in(m: &[u8]) -> ManifestVersion
+fn version_in(m: &[u8]) -> Result<ManifestVersion, Refusal>
     ensures { of_manifest result ≡ manifest_in m.now }
 {
     if m.len() < MANIFEST_MIN {
-        return ManifestVersion::Refused(refusal::SHORT_BLOB);
+        return Err(Refusal::ShortBlob);
     }
-    let major = word_at(m, MAJOR_AT);
-    let minor = word_at(m, MINOR_AT);
-    let hotfix = word_at(m, HOTFIX_AT);
-    let build = word_at(m, BUILD_AT);
-    ManifestVersion::Known {
-        major,
-        minor,
-        hotfix,
-        build,
-    }
+    Ok(ManifestVersion {
+        major: word_at(m, MAJOR_AT),
+        minor: word_at(m, MINOR_AT),
+        hotfix: word_at(m, HOTFIX_AT),
+        build: word_at(m, BUILD_AT),
+    })
 }
 
 // The firmware version in the part `HUCP.man` of a directory.
-pub fn manifest_version(blob: &[u8]) -> ManifestVersion
+pub fn manifest_version(blob: &[u8]) -> Result<ManifestVersion, Refusal>
     ensures { of_manifest result ≡ manifest_reading blob.now }
 {
-    let f = cpd_located(blob, b"HUCP.man");
-    let number = f.code;
-    if number != 0 {
-        return ManifestVersion::Refused(number);
-    }
-    let start = f.start;
-    let end = start + f.len;
-    version_in(&blob[start..end])
+    let f = cpd_located(blob, b"HUCP.man")?;
+    version_in(f.part_of(blob))
 }
 
 // The version of the image in the part `huc_fw` of a directory.
-pub fn huc_version(blob: &[u8]) -> Version
+pub fn huc_version(blob: &[u8]) -> Result<Version, Refusal>
     ensures { of_version result ≡ huc_reading blob.now }
 {
-    let f = cpd_located(blob, b"huc_fw");
-    let code = f.code;
-    if code != 0 {
-        return Version::Refused(code);
-    }
-    let start = f.start;
-    let end = start + f.len;
-    css_version(&blob[start..end])
+    let f = cpd_located(blob, b"huc_fw")?;
+    css_version(f.part_of(blob))
 }

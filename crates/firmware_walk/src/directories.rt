@@ -1,6 +1,6 @@
 // Code partition directories: their own numbers, and where the part of a name lies.
 use crate::wording::sought;
-use say::{four, one, text, two};
+use say::{Quoted, Verdict};
 use stage::{Room, cut};
 use std::io;
 
@@ -22,22 +22,12 @@ pub(crate) fn with_huc(offset: u32, len: u32) -> Room {
 // How many entries a directory has, the names of the first two and of one too many, and what it is answered.
 fn listed(rt: &impl Print, blob: &[u8]) -> io::Result<()> {
     let d = firmware::cpd_directory(blob);
-    two(
-        rt,
-        b"% bytes, entries %, names",
-        blob.len() as u64,
-        d.count as u64,
-    )?;
-    listed_name(rt, blob, 0)?;
-    listed_name(rt, blob, 1)?;
-    listed_name(rt, blob, 2)?;
-    say::answered(rt, d.code)
-}
-
-// A name of twelve bytes, or none.
-fn listed_name(rt: &impl Print, blob: &[u8], i: usize) -> io::Result<()> {
-    text(rt, b" ")?;
-    say::quoted(rt, firmware::cpd_name(blob, i))
+    let count = d.map_or(0, |d| d.count);
+    print!(rt; "{} bytes, entries {count}, names", blob.len())?;
+    for i in 0..3 {
+        print!(rt; " {}", Quoted(firmware::cpd_name(blob, i)))?;
+    }
+    println!(rt; "{}", Verdict::of(&d))
 }
 
 // The first len bytes of a directory.
@@ -47,27 +37,30 @@ fn listed_to(rt: &impl Print, room: &Room, len: usize) -> io::Result<()> {
 
 // A directory's own numbers: 15, 18 and 19.
 pub(crate) fn entries(rt: &impl Print) -> io::Result<()> {
-    text(
-        rt,
-        b"\nA directory of two entries after a header of 20 bytes: the entries end at 68\n",
-    )?;
+    println!(rt; "\nA directory of two entries after a header of 20 bytes: the entries end at 68")?;
     let room = two_entries(b"name_of_this", 68, 0);
     listed_to(rt, &room, 19)?;
     listed_to(rt, &room, 20)?;
     listed_to(rt, &room, 67)?;
     listed_to(rt, &room, 68)?;
-    with_byte(rt, b"Header length %: ", room, 10, 19)?;
-    with_byte(rt, b"Header length %: ", room, 10, 21)?;
+    with_header_length(rt, room, 19)?;
+    with_header_length(rt, room, 21)?;
     with_count(rt, 0, 20)?;
     with_count(rt, 0xffff_ffff, 100)?;
-    with_byte(rt, b"Marker $CPd: ", room, 3, b'd')
+    print!(rt; "Marker $CPd: ")?;
+    with_byte(rt, room, 3, b'd')
 }
 
-// The same with another byte, named in a template for its value.
-fn with_byte(rt: &impl Print, template: &[u8], room: Room, at: usize, value: u8) -> io::Result<()> {
+// The same with another header length.
+fn with_header_length(rt: &impl Print, room: Room, length: u8) -> io::Result<()> {
+    print!(rt; "Header length {length}: ")?;
+    with_byte(rt, room, 10, length)
+}
+
+// The same with another byte.
+fn with_byte(rt: &impl Print, room: Room, at: usize, value: u8) -> io::Result<()> {
     let mut other = room;
-    stage::put_byte(&mut other, at, value);
-    one(rt, template, value as u64)?;
+    stage::put(&mut other, at, value);
     listed_to(rt, &other, 68)
 }
 
@@ -75,7 +68,7 @@ fn with_byte(rt: &impl Print, template: &[u8], room: Room, at: usize, value: u8)
 fn with_count(rt: &impl Print, count: u32, len: usize) -> io::Result<()> {
     let mut room = stage::blank();
     stage::put_directory(&mut room, count, 20);
-    one(rt, b"Entry count %: ", count as u64)?;
+    print!(rt; "Entry count {count}: ")?;
     listed_to(rt, &room, len)
 }
 
@@ -86,17 +79,14 @@ pub(crate) fn sought_huc(rt: &impl Print, room: &Room, len: usize) -> io::Result
 
 // Parts that end where the blob ends, or a byte later.
 pub(crate) fn parts(rt: &impl Print) -> io::Result<()> {
-    text(rt, b"\nThe part of that directory's second entry\n")?;
+    println!(rt; "\nThe part of that directory's second entry")?;
     part_at(rt, 68, 0, 67)?;
     part_at(rt, 68, 0, 68)?;
     part_at(rt, 69, 0, 68)?;
     part_at(rt, 68, 1, 68)?;
     part_at(rt, 68, 1, 69)?;
     part_at(rt, 68, 0xffff_ffff, 100)?;
-    text(
-        rt,
-        b"Bits 31:25 of an offset do not count, bit 24 does; 0x44 is 68\n",
-    )?;
+    println!(rt; "Bits 31:25 of an offset do not count, bit 24 does; 0x44 is 68")?;
     part_with_bits(rt, 0x0200_0044)?;
     part_with_bits(rt, 0xfe00_0044)?;
     part_with_bits(rt, 0x0100_0044)
@@ -104,21 +94,12 @@ pub(crate) fn parts(rt: &impl Print) -> io::Result<()> {
 
 // A part with that offset and length, in a blob of so many bytes.
 fn part_at(rt: &impl Print, offset: u32, len: u32, bytes: usize) -> io::Result<()> {
-    let room = with_huc(offset, len);
-    four(
-        rt,
-        b"Offset %, length %, in % bytes",
-        offset as u64,
-        len as u64,
-        bytes as u64,
-        0,
-    )?;
-    sought_huc(rt, &room, bytes)
+    print!(rt; "Offset {offset}, length {len}, in {bytes} bytes")?;
+    sought_huc(rt, &with_huc(offset, len), bytes)
 }
 
 // A part of 8 bytes with that offset as it is stored.
 fn part_with_bits(rt: &impl Print, offset: u32) -> io::Result<()> {
-    let room = with_huc(offset, 8);
-    one(rt, b"Offset &, length 8, in 100 bytes", offset as u64)?;
-    sought_huc(rt, &room, 100)
+    print!(rt; "Offset {offset:#010x}, length 8, in 100 bytes")?;
+    sought_huc(rt, &with_huc(offset, 8), 100)
 }

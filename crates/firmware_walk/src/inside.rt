@@ -1,7 +1,6 @@
 // Parts inside a directory: manifests, and images judged as blobs of their own.
 use crate::names::put_huc;
-use firmware::ManifestVersion;
-use say::{text, two};
+use say::{ManifestVersion, Verdict};
 use stage::{Room, cut};
 use std::io;
 
@@ -17,10 +16,7 @@ fn put_manifest(s: &mut [u8], at: usize, offset: u32, len: u32) {
 
 // Manifests on both sides of 44 bytes, and blobs without one.
 pub(crate) fn manifests(rt: &impl Print) -> io::Result<()> {
-    text(
-        rt,
-        b"\nManifests: HUCP.man at 68, which with length 44 ends at 112\n",
-    )?;
+    println!(rt; "\nManifests: HUCP.man at 68, which with length 44 ends at 112")?;
     manifest_of(rt, 43, 300)?;
     manifest_of(rt, 44, 300)?;
     manifest_of(rt, 44, 112)?;
@@ -32,33 +28,29 @@ pub(crate) fn manifests(rt: &impl Print) -> io::Result<()> {
 // A manifest of that length, in a blob of so many bytes.
 fn manifest_of(rt: &impl Print, len: u32, bytes: usize) -> io::Result<()> {
     let room = directory(len, 160, 35);
-    two(rt, b"Length %, in % bytes", len as u64, bytes as u64)?;
+    print!(rt; "Length {len}, in {bytes} bytes")?;
     manifest(rt, &room, bytes)
 }
 
 // What a manifest is answered, or its version.
 fn manifest(rt: &impl Print, room: &Room, bytes: usize) -> io::Result<()> {
-    let v = firmware::manifest_version(cut(room, bytes));
-    match v {
-        ManifestVersion::Refused(code) => say::answered(rt, code)?,
-        _ => {
-            text(rt, b": accepted; firmware version ")?;
-            say::manifest_version(rt, v)?;
-            say::end(rt)?;
-        }
+    let answer = firmware::manifest_version(cut(room, bytes));
+    let verdict = Verdict::of(&answer);
+    match answer {
+        Ok(_) => println!(rt; "{verdict}; firmware version {}", ManifestVersion(answer)),
+        Err(_) => println!(rt; "{verdict}"),
     }
-    Ok(())
 }
 
 // Another name in its place, and its name twice.
 fn other_manifests(rt: &impl Print) -> io::Result<()> {
     let mut other = directory(44, 160, 35);
     stage::put_entry(&mut other, 20, b"HUCP.met", 68, 44);
-    text(rt, b"HUCP.met instead")?;
+    print!(rt; "HUCP.met instead")?;
     manifest(rt, &other, 300)?;
     put_manifest(&mut other, 20, 68, 44);
     put_manifest(&mut other, 44, 112, 160);
-    text(rt, b"HUCP.man twice")?;
+    print!(rt; "HUCP.man twice")?;
     manifest(rt, &other, 300)
 }
 
@@ -70,16 +62,13 @@ fn judged_to(rt: &impl Print, room: &Room, bytes: usize) -> io::Result<()> {
 // An image in a part of that length, with that h.
 fn image_of(rt: &impl Print, len: u32, h: usize) -> io::Result<()> {
     let room = directory(44, len, h);
-    two(rt, b"Length %, h %", len as u64, h as u64)?;
+    print!(rt; "Length {len}, h {h}")?;
     judged_to(rt, &room, 300)
 }
 
 // Images that are accepted.
 pub(crate) fn accepted_images(rt: &impl Print) -> io::Result<()> {
-    text(
-        rt,
-        b"\nImages in a directory of 300 bytes: huc_fw at 112, with s 40, k 1, m 1, e 1\n",
-    )?;
+    println!(rt; "\nImages in a directory of 300 bytes: huc_fw at 112, with s 40, k 1, m 1, e 1")?;
     image_of(rt, 160, 35)?;
     image_of(rt, 161, 35)?;
     image_of(rt, 188, 35)?;
@@ -87,16 +76,13 @@ pub(crate) fn accepted_images(rt: &impl Print) -> io::Result<()> {
     image_of(rt, 152, 35)?;
     let mut room = directory(44, 160, 35);
     stage::put_dword(&mut room, 56, 0x0200_0070);
-    text(rt, b"Length 160, h 35, offset 112 with bit 25 set")?;
+    print!(rt; "Length 160, h 35, offset 112 with bit 25 set")?;
     judged_to(rt, &room, 300)
 }
 
 // Images that the image's rules or the directory's refuse.
 pub(crate) fn refused_images(rt: &impl Print) -> io::Result<()> {
-    text(
-        rt,
-        b"\nImages in that directory that are refused; 188 bytes are left from 112 on\n",
-    )?;
+    println!(rt; "\nImages in that directory that are refused; 188 bytes are left from 112 on")?;
     image_of(rt, 151, 35)?;
     image_of(rt, 127, 35)?;
     image_of(rt, 0, 35)?;
@@ -108,13 +94,13 @@ pub(crate) fn refused_images(rt: &impl Print) -> io::Result<()> {
 // Another name in its place, entries cut off, and its name twice.
 fn other_images(rt: &impl Print) -> io::Result<()> {
     let mut other = directory(44, 160, 35);
-    text(rt, b"In 67 bytes")?;
+    print!(rt; "In 67 bytes")?;
     judged_to(rt, &other, 67)?;
     put_huc(&mut other, 20, 112, 160);
-    text(rt, b"huc_fw twice")?;
+    print!(rt; "huc_fw twice")?;
     judged_to(rt, &other, 300)?;
     put_manifest(&mut other, 20, 68, 44);
     stage::put_entry(&mut other, 44, b"huc_fwx", 112, 160);
-    text(rt, b"huc_fwx instead")?;
+    print!(rt; "huc_fwx instead")?;
     judged_to(rt, &other, 300)
 }

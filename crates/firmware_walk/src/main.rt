@@ -7,9 +7,9 @@ mod inside;
 mod names;
 mod wording;
 
-// The scenes, each on blobs of its own.
 use std::io;
 
+// The scenes, each on blobs of its own.
 fn main(rt: HostRuntime) -> io::Result<()> {
     foreword(&rt)?;
     images::by_length(&rt)?;
@@ -27,13 +27,12 @@ fn main(rt: HostRuntime) -> io::Result<()> {
 
 // What a reader of the lines has to know.
 fn foreword(rt: &impl Print) -> io::Result<()> {
-    say::text(
-        rt,
-        b"A firmware file is a CSS image, or a code partition directory (CPD) with named\n\
-          parts. An image has a header of 128 bytes, then uCode, RSA, modulus and\n\
-          exponent. Its header gives sizes in dwords, of 4 bytes: h all that is not\n\
-          uCode, s all, k RSA, m modulus, e exponent.\n\
-          A part runs from its start up to its end, which is excluded. Where there is no\n\
-          part, the empty one at byte 0 is answered.\n",
+    rt.print(
+        "A firmware file is a CSS image, or a code partition directory (CPD) with named\n\
+         parts. An image has a header of 128 bytes, then uCode, RSA, modulus and\n\
+         exponent. Its header gives sizes in dwords, of 4 bytes: h all that is not\n\
+         uCode, s all, k RSA, m modulus, e exponent.\n\
+         A part runs from its start up to its end, which is excluded. Where there is no\n\
+         part, the empty one at byte 0 is answered.\n",
     )
 }

@@ -2,27 +2,25 @@
 // may not be sought.
 use crate::directories::{sought_huc, two_entries, with_huc};
 use crate::wording::sought;
-use say::{four, one, text};
+use say::Quoted;
 use stage::{Room, cut};
 use std::io;
 
 // Seeks a name in the first len bytes.
 fn seek_in(rt: &impl Print, room: &Room, len: usize, name: &[u8]) -> io::Result<()> {
-    one(rt, b"In % bytes, ", len as u64)?;
+    print!(rt; "In {len} bytes, ")?;
     seek(rt, cut(room, len), name)
 }
 
 fn seek(rt: &impl Print, blob: &[u8], name: &[u8]) -> io::Result<()> {
-    text(rt, b"seek ")?;
-    say::quoted(rt, name)?;
+    print!(rt; "seek {}", Quoted(name))?;
     sought(rt, firmware::cpd_located(blob, name))
 }
 
 // Names that are there, and that are not.
 pub(crate) fn found_or_not(rt: &impl Print) -> io::Result<()> {
-    text(
-        rt,
-        b"\nNames sought in 100 bytes: \"twelve_bytes\" at 70 to 75, then \"huc_fw\" at 80 to 84\n",
+    println!(rt;
+        "\nNames sought in 100 bytes: \"twelve_bytes\" at 70 to 75, then \"huc_fw\" at 80 to 84"
     )?;
     let room = with_huc(80, 4);
     let d = cut(&room, 100);
@@ -36,10 +34,7 @@ pub(crate) fn found_or_not(rt: &impl Print) -> io::Result<()> {
 
 // Names of which one is a prefix, and a name that two entries have. 100 bytes each.
 pub(crate) fn alike_or_twice(rt: &impl Print) -> io::Result<()> {
-    text(
-        rt,
-        b"\nNames that begin alike, and one name twice, in 100 bytes: seek \"huc_fw\"\n",
-    )?;
+    println!(rt; "\nNames that begin alike, and one name twice, in 100 bytes: seek \"huc_fw\"")?;
     longer_first(rt)?;
     twice(rt, 70, 5)?;
     twice(rt, 99, 2)?;
@@ -57,7 +52,7 @@ pub(crate) fn put_huc(s: &mut [u8], at: usize, offset: u32, len: u32) {
 fn longer_first(rt: &impl Print) -> io::Result<()> {
     let mut room = with_huc(80, 4);
     stage::put_entry(&mut room, 20, b"huc_fwx", 70, 5);
-    text(rt, b"\"huc_fwx\" at 70 to 75 and \"huc_fw\" at 80 to 84")?;
+    print!(rt; "\"huc_fwx\" at 70 to 75 and \"huc_fw\" at 80 to 84")?;
     sought_huc(rt, &room, 100)
 }
 
@@ -67,14 +62,7 @@ fn twice(rt: &impl Print, offset: u32, len: u32) -> io::Result<()> {
     let mut room = with_huc(80, 4);
     put_huc(&mut room, 20, offset, len);
     let end = offset.wrapping_add(len);
-    four(
-        rt,
-        b"\"huc_fw\" at % to % and again at 80 to 84",
-        offset as u64,
-        end as u64,
-        0,
-        0,
-    )?;
+    print!(rt; "\"huc_fw\" at {offset} to {end} and again at 80 to 84")?;
     sought_huc(rt, &room, 100)
 }
 
@@ -83,7 +71,7 @@ fn not_counted(rt: &impl Print) -> io::Result<()> {
     let mut room = with_huc(80, 4);
     put_huc(&mut room, 20, 80, 4);
     stage::put_directory(&mut room, 1, 20);
-    text(rt, b"The same with entry count 1")?;
+    print!(rt; "The same with entry count 1")?;
     sought_huc(rt, &room, 100)
 }
 
@@ -93,17 +81,14 @@ fn first_and_last(rt: &impl Print) -> io::Result<()> {
     stage::put_directory(&mut room, 3, 20);
     put_huc(&mut room, 20, 92, 2);
     put_huc(&mut room, 68, 97, 3);
-    text(
-        rt,
-        b"\"huc_fw\" at 92 to 94, \"other\" at 94 to 97, \"huc_fw\" at 97 to 100",
-    )?;
+    print!(rt; "\"huc_fw\" at 92 to 94, \"other\" at 94 to 97, \"huc_fw\" at 97 to 100")?;
     sought_huc(rt, &room, 100)?;
     seek(rt, cut(&room, 100), b"other")
 }
 
 // Names that may not be sought, whatever the blob is: 14 is the lowest number here.
 pub(crate) fn refused(rt: &impl Print) -> io::Result<()> {
-    text(rt, b"\nNames that may not be sought\n")?;
+    println!(rt; "\nNames that may not be sought")?;
     let room = with_huc(80, 4);
     seek_in(rt, &room, 100, b"")?;
     seek_in(rt, &room, 100, b"twelve_bytes1")?;

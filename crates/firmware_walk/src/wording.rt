@@ -1,15 +1,14 @@
 // Where the part of a name lies.
 use firmware::Located;
-use say::text;
+use refusal::Refusal;
+use say::{Part, Verdict};
 use std::io;
 
 // Where a part lies, or that there is none, and what was answered.
-pub(crate) fn sought(rt: &impl Print, l: Located) -> io::Result<()> {
-    if (l.start == 0) & (l.len == 0) {
-        text(rt, b", no part")?;
-    } else {
-        text(rt, b", part ")?;
-        say::part(rt, l)?;
+pub(crate) fn sought(rt: &impl Print, answer: Result<Located, Refusal>) -> io::Result<()> {
+    let verdict = Verdict::of(&answer);
+    match answer {
+        Ok(l) => println!(rt; ", part {}{verdict}", Part(l)),
+        Err(_) => println!(rt; ", no part{verdict}"),
     }
-    say::answered(rt, l.code)
 }

@@ -1,126 +1,117 @@
 // CSS images: the verdict, and the figures behind it.
-use crate::options::Expected;
+use crate::options::Asked;
+use crate::verdicts::Class;
 use crate::{kinds, verdicts, versions};
-use say::starts;
-use std::io;
+use firmware::{Figures, Sizes};
+use refusal::Refusal;
+use std::cmp::Ordering;
+use std::{fmt, io};
+
+// What a file's own name says that it is. The header does not say.
+#[derive(Clone, Copy, Debug, PartialEq, Eq)]
+pub(crate) enum Named {
+    Guc,
+    Huc,
+    Neither,
+}
+
+impl Named {
+    // By the last 'guc' or 'huc' behind the folders.
+    pub(crate) fn by(path: &[u8]) -> Named {
+        let name = match path.iter().rposition(|b| *b == b'/') {
+            Some(slash) => &path[slash + 1..],
+            None => path,
+        };
+        let mut named = Named::Neither;
+        for letters in name.windows(3) {
+            match letters {
+                b"guc" => named = Named::Guc,
+                b"huc" => named = Named::Huc,
+                _ => (),
+            }
+        }
+        named
+    }
+}
+
+impl fmt::Display for Named {
+    fn fmt<W: fmt::Write>(&self, f: &mut fmt::Formatter<W>) -> fmt::Result {
+        f.write_str(match self {
+            Named::Guc => "GuC",
+            Named::Huc => "HuC",
+            Named::Neither => "firmware",
+        })
+    }
+}
 
 // A file without the marker $CPD.
-pub(crate) fn verdict(
-    rt: &impl Print,
-    blob: &[u8],
-    which: usize,
-    expect: Expected,
-) -> io::Result<u32> {
-    let a = firmware::css_answer(blob);
-    if a.code == 0 {
-        return accepted(rt, blob, which, expect);
-    }
-    let kind = kinds::of_image(blob, a.code);
-    if kind == kinds::FIRMWARE {
-        verdicts::refused(rt, a.code)
-    } else {
-        kinds::named(rt, kind)
+pub(crate) fn verdict(rt: &impl Print, blob: &[u8], named: Named, o: &Asked) -> io::Result<Class> {
+    let Err(why) = firmware::css_answer(blob) else {
+        return accepted(rt, blob, named, o);
+    };
+    match kinds::of_image(blob, why) {
+        Some(kind) => kinds::not_judged(rt, kind),
+        None => verdicts::refused(rt, why),
     }
 }
 
 // An image that is accepted, of the version that is expected or of another.
-fn accepted(rt: &impl Print, blob: &[u8], which: usize, expect: Expected) -> io::Result<u32> {
+fn accepted(rt: &impl Print, blob: &[u8], named: Named, o: &Asked) -> io::Result<Class> {
     let v = firmware::css_version(blob);
-    let class = if versions::meets(versions::of_image(v), 3, expect) {
-        verdicts::GOOD
-    } else {
-        verdicts::NOT_GOOD
-    };
-    verdicts::start(rt, class)?;
-    say::line(rt, b"GuC \nHuC \nfirmware \n", which)?;
-    say::image_version(rt, v)?;
-    if class == verdicts::GOOD {
-        left_out(rt, firmware::css_figures(blob))?;
-    } else {
-        versions::unexpected(rt, expect)?;
-    }
-    Ok(class)
-}
-
-// What an accepted image has beside header, uCode and RSA; ends the line.
-pub(crate) fn left_out(rt: &impl Print, f: firmware::Figures) -> io::Result<()> {
-    let how = if f.there == f.complete {
-        0
-    } else if f.complete < f.there {
-        1
-    } else if f.there == f.needed {
-        2
-    } else {
-        3
-    };
-    say::text(rt, b" (")?;
-    say::line(
-        rt,
-        b"whole\n\
-          whole, with bytes behind it that belong to no part\n\
-          modulus and exponent left out, as shipped\n\
-          cut off within modulus and exponent\n",
-        how,
-    )?;
-    say::text(rt, b")\n")
-}
-
-// What a file's own name says that it is. The header does not say.
-pub(crate) const NAMED_GUC: usize = 0;
-
-pub(crate) const NAMED_HUC: usize = 1;
-
-pub(crate) const NAMED_NEITHER: usize = 2;
-
-// Which firmware the name says, by 'guc' or 'huc' in it.
-pub(crate) fn firmware_named(path: &[u8]) -> usize {
-    let mut which = NAMED_NEITHER;
-    for i in 0..path.len() {
-        if path[i] == b'/' {
-            which = NAMED_NEITHER;
+    let version = say::Version(v);
+    match o.expect {
+        Some(expect) if !expect.is_met_by(&versions::of_image(v)) => {
+            let class = Class::NotGood;
+            println!(rt; "{class}: {named} {version}, expected {expect}")?;
+            Ok(class)
         }
-        if starts(&path[i..], b"guc") {
-            which = NAMED_GUC;
-        }
-        if starts(&path[i..], b"huc") {
-            which = NAMED_HUC;
+        _ => {
+            let class = Class::Good;
+            let there = what_is_there(firmware::css_figures(blob));
+            println!(rt; "{class}: {named} {version} ({there})")?;
+            Ok(class)
         }
     }
-    which
+}
+
+// What an accepted image has beside header, uCode and RSA.
+pub(crate) fn what_is_there(f: Figures) -> &'static str {
+    match f.there.cmp(&f.complete) {
+        Ordering::Equal => "whole",
+        Ordering::Greater => "whole, with bytes behind it that belong to no part",
+        Ordering::Less if f.there == f.needed => "modulus and exponent left out, as shipped",
+        Ordering::Less => "cut off within modulus and exponent",
+    }
 }
 
 // The figures of a file that is judged; of another its length.
-pub(crate) fn figures(rt: &impl Print, blob: &[u8], class: u32) -> io::Result<()> {
+pub(crate) fn figures(rt: &impl Print, blob: &[u8], class: Class) -> io::Result<()> {
     let f = firmware::css_figures(blob);
-    if class == verdicts::NOT_JUDGED {
-        say::one(rt, b"  % bytes\n", f.there as u64)?;
-    } else if f.code == 0 {
-        say::four(
-            rt,
-            b"  % bytes of a CSS image that has % when it is whole, and at least %\n",
-            f.there as u64,
-            f.complete as u64,
-            f.needed as u64,
-            0,
-        )?;
-        say::image_parts(rt, blob)?;
-    } else if f.code == firmware::refusal::CSS_SIZES {
-        sizes(rt, firmware::css_sizes(blob))?;
-    } else {
-        verdicts::shortage(rt, f)?;
+    let Figures {
+        needed,
+        complete,
+        there,
+        ..
+    } = f;
+    if class == Class::NotJudged {
+        return println!(rt; "  {there} bytes");
     }
-    Ok(())
+    match f.answer {
+        Ok(()) => {
+            println!(rt;
+                "  {there} bytes of a CSS image that has {complete} when it is whole, and at least {needed}"
+            )?;
+            say::image_parts(rt, blob)
+        }
+        Err(Refusal::CssSizes) => sizes(rt, firmware::css_sizes(blob)),
+        Err(_) => verdicts::shortage(rt, f),
+    }
 }
 
 // Sizes that disagree, and what they must be.
-fn sizes(rt: &impl Print, z: firmware::Sizes) -> io::Result<()> {
-    say::two(rt, b"  in dwords: h %, s %, ", z.h as u64, z.s as u64)?;
-    say::four(
-        rt,
-        b"k %, m %, e %; h must be 32 + k + m + e, k at least 1, s above h\n",
-        z.k as u64,
-        z.m as u64,
-        z.e as u64,
-        0,
+fn sizes(rt: &impl Print, z: Sizes) -> io::Result<()> {
+    let Sizes { h, s, k, m, e } = z;
+    println!(rt;
+        "  in dwords: h {h}, s {s}, k {k}, m {m}, e {e}; h must be 32 + k + m + e, k at least 1, s above h"
     )
 }

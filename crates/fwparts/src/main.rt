@@ -14,22 +14,27 @@ mod tally;
 mod verdicts;
 mod versions;
 
-use options::Options;
+use image::Named;
+use options::Asked;
+use reading::Unread;
+use say::Quoted;
 use std::io;
 use std::io::{ErrorKind, Read};
+use std::ops::Range;
 use std::rt::{Env, Files};
 use tally::Tally;
+use verdicts::Class;
 
 // What the bytes of a file are. The marker $CPD makes a file a directory, good or not.
-fn report(rt: &impl Print, blob: &[u8], which: usize, o: Options) -> io::Result<u32> {
+fn report(rt: &impl Print, blob: &[u8], named: Named, o: &Asked) -> io::Result<Class> {
     if firmware::cpd_marker(blob) {
-        let class = directory::verdict(rt, blob, which, o.expect)?;
+        let class = directory::verdict(rt, blob, named, o)?;
         if o.figures {
             directory::figures(rt, blob)?;
         }
         Ok(class)
     } else {
-        let class = image::verdict(rt, blob, which, o.expect)?;
+        let class = image::verdict(rt, blob, named, o)?;
         if o.figures {
             image::figures(rt, blob, class)?;
         }
@@ -41,18 +46,18 @@ fn report(rt: &impl Print, blob: &[u8], which: usize, o: Options) -> io::Result<
 fn judge(
     rt: &(impl Print + Files + Env),
     blob: &[u8],
-    which: usize,
-    o: Options,
-) -> io::Result<u32> {
-    let class = report(rt, blob, which, o)?;
-    if o.part_at == 0 {
-        return Ok(class);
+    named: Named,
+    o: &Asked,
+) -> io::Result<Class> {
+    let class = report(rt, blob, named, o)?;
+    match o.part {
+        None => Ok(class),
+        Some(part) if class == Class::Good => output::extract(rt, blob, part),
+        Some(_) => {
+            println!(rt; "  nothing written: only of a file that is good")?;
+            Ok(class)
+        }
     }
-    if class == verdicts::GOOD {
-        return output::part(rt, blob, o.part_at, o.out_at);
-    }
-    say::text(rt, b"  nothing written: only of a file that is good\n")?;
-    Ok(class)
 }
 
 // Reads an open file into the room lent, and judges what was read.
@@ -60,14 +65,14 @@ fn read_and_judge(
     rt: &(impl Print + Files + Env),
     file: &mut impl Read,
     room: &mut [u8],
-    which: usize,
-    o: Options,
-) -> io::Result<u32> {
-    let n = reading::filled(file, room);
-    if reading::ended(rt, file, n, room.len())? {
-        judge(rt, &room[..n], which, o)
-    } else {
-        Ok(verdicts::NOT_READ)
+    named: Named,
+    o: &Asked,
+) -> io::Result<Class> {
+    // What stops it is what the next read says.
+    let n = say::fill(file, room, 0).n;
+    match reading::ended(file, n, room.len()) {
+        Ok(()) => judge(rt, &room[..n], named, o),
+        Err(why) => reading::not_read(rt, why),
     }
 }
 
@@ -75,51 +80,49 @@ fn read_and_judge(
 fn opened(
     rt: &(impl Print + Files + Env),
     file: &mut impl Read,
-    which: usize,
-    o: Options,
-) -> io::Result<u32> {
+    named: Named,
+    o: &Asked,
+) -> io::Result<Class> {
     let mut room = reading::room();
-    read_and_judge(rt, file, &mut room, which, o)
+    read_and_judge(rt, file, &mut room, named, o)
 }
 
-// The file that argument i names.
-fn file(rt: &(impl Print + Files + Env + AllocGlobal), i: usize, o: Options) -> io::Result<u32> {
+// The file that word i names.
+fn file(rt: &(impl Print + Files + Env + AllocGlobal), i: usize, o: &Asked) -> io::Result<Class> {
     let mut room = say::room();
     let Some(name) = say::whole_word(rt, i, &mut room) else {
-        return reading::unread(rt, ErrorKind::InvalidFilename);
+        return reading::not_read(rt, Unread::System(ErrorKind::InvalidFilename));
     };
     if o.several {
-        reading::name(rt, name)?;
+        print!(rt; "{}: ", Quoted(name))?;
     }
     match say::open(rt, i, name) {
-        Ok(mut file) => opened(rt, &mut file, image::firmware_named(name), o),
-        Err(e) => reading::unread(rt, e.kind()),
+        Ok(mut file) => opened(rt, &mut file, Named::by(name), o),
+        Err(e) => reading::not_read(rt, Unread::System(e.kind())),
     }
 }
 
-// Every file, from the argument behind the options on.
-fn files(
+// Every file.
+fn all(
     rt: &(impl Print + Files + Env + AllocGlobal),
-    o: Options,
-    count: usize,
+    files: Range<usize>,
+    o: &Asked,
 ) -> io::Result<Tally> {
-    let mut t = tally::none();
-    for i in o.at..count {
-        let class = file(rt, i, o)?;
-        t = t.with(class);
+    let mut tally = Tally::default();
+    for i in files {
+        tally.add(file(rt, i, o)?);
     }
-    Ok(t)
+    Ok(tally)
 }
 
 fn main(rt: HostRuntime) -> io::Result<()> {
-    let o = options::read(&rt);
-    if o.wrong {
-        say::complaint(
-            &rt,
-            "usage: fwparts [--figures] [--expect VERSION] [--part NAME --out FILE] FILE..\n",
-        );
-        return say::text(&rt, b"fwparts: wrong usage\n");
+    match options::read(&rt) {
+        Ok((files, asked)) => println!(rt; "{}", all(&rt, files, &asked)?),
+        Err(_) => {
+            let _ = eprintln!(rt;
+                "usage: fwparts [--figures] [--expect VERSION] [--part NAME --out FILE] FILE.."
+            );
+            println!(rt; "fwparts: wrong usage")
+        }
     }
-    let all = files(&rt, o, say::word_count(&rt))?;
-    tally::last_line(&rt, all)
 }

@@ -1,138 +1,107 @@
 // A part written to a new file: of the very bytes that were judged good in this run.
-use crate::{reading, verdicts};
+use crate::options::Wanted;
+use crate::verdicts::Class;
 use firmware::Component;
-use say::equal;
+use refusal::Refusal;
+use say::{Numbered, Quoted, Reason};
 use std::fs::{OpenFile, OpenOptions};
 use std::io::Write;
 use std::rt::{Env, Files};
-use std::{fs, io};
+use std::{fmt, fs, io};
 
-// What a part is: a component of the image by its rank, or an entry.
-const ENTRY: usize = 4;
-
-const NO_COMPONENT: usize = 5;
-
-// Writes the part that argument `name` names to the new file that argument `out` names.
-pub(crate) fn part(
-    rt: &(impl Print + Files + Env),
-    blob: &[u8],
-    name: usize,
-    out: usize,
-) -> io::Result<u32> {
-    part_named(rt, blob, say::word(rt, name, &mut say::room()), out)
+// A part by its name: a component of the image, or an entry of the directory.
+#[derive(Clone, Copy)]
+enum Part<'a> {
+    Component(Component),
+    Entry(&'a [u8]),
 }
 
-// The part of that name: an entry of a directory, or a component of the image, also of the one in a directory.
-fn part_named(
+impl<'a> fmt::Display for Part<'a> {
+    fn fmt<W: fmt::Write>(&self, f: &mut fmt::Formatter<W>) -> fmt::Result {
+        match *self {
+            Part::Component(which) => write!(f, "{}", say::Named(which)),
+            Part::Entry(name) => write!(f, "entry {}", Quoted(name)),
+        }
+    }
+}
+
+// Writes a part of a file to a new one, by the words that name the two.
+pub(crate) fn extract(
     rt: &(impl Print + Files + Env),
     blob: &[u8],
-    name: &[u8],
-    out: usize,
-) -> io::Result<u32> {
+    wanted: Wanted,
+) -> io::Result<Class> {
+    let mut room = say::room();
+    let name = say::word(rt, wanted.name, &mut room);
+    match part_named(blob, name) {
+        Ok(Some(part)) => written(rt, part, bytes(blob, part), wanted.out),
+        Ok(None) => {
+            println!(rt; "  not written: no part has the name {}", Quoted(name))?;
+            Ok(Class::NotWritten)
+        }
+        Err(why) => {
+            println!(rt; "  not written: {}: {}", Quoted(name), Numbered(why))?;
+            Ok(Class::NotWritten)
+        }
+    }
+}
+
+// The part of that name: an entry of a directory, or a component of the image, also of the one in a directory. Of entries
+// that share a name none is the one.
+fn part_named<'a>(blob: &[u8], name: &'a [u8]) -> Result<Option<Part<'a>>, Refusal> {
     if firmware::cpd_marker(blob) {
-        let l = firmware::cpd_located(blob, name);
-        if l.code == 0 {
-            return written(rt, firmware::cpd_part(blob, name), ENTRY, name, out);
-        }
-        if l.code == firmware::refusal::DUPLICATE_ENTRY {
-            return refused(rt, l.code, name);
-        }
-        return component(rt, blob, name, out);
-    }
-    component(rt, blob, name, out)
-}
-
-// An entry's name that is refused.
-fn refused(rt: &impl Print, code: u32, name: &[u8]) -> io::Result<u32> {
-    say::text(rt, b"  not written: ")?;
-    reading::name(rt, name)?;
-    say::number(rt, code)?;
-    say::end(rt)?;
-    Ok(verdicts::NOT_WRITTEN)
-}
-
-// Which component has that name.
-fn component_named(name: &[u8]) -> usize {
-    if equal(name, b"ucode") {
-        0
-    } else if equal(name, b"rsa") {
-        1
-    } else if equal(name, b"modulus") {
-        2
-    } else if equal(name, b"exponent") {
-        3
-    } else {
-        NO_COMPONENT
-    }
-}
-
-// A component of the image.
-fn component(
-    rt: &(impl Print + Files + Env),
-    blob: &[u8],
-    name: &[u8],
-    out: usize,
-) -> io::Result<u32> {
-    let which = component_named(name);
-    match which {
-        0 => written(rt, bytes(blob, Component::Ucode), which, name, out),
-        1 => written(rt, bytes(blob, Component::Rsa), which, name, out),
-        2 => written(rt, bytes(blob, Component::Modulus), which, name, out),
-        3 => written(rt, bytes(blob, Component::Exponent), which, name, out),
-        _ => {
-            say::text(rt, b"  not written: no part has the name ")?;
-            say::quoted(rt, name)?;
-            say::end(rt)?;
-            Ok(verdicts::NOT_WRITTEN)
+        match firmware::cpd_answer(blob, name) {
+            Ok(()) => return Ok(Some(Part::Entry(name))),
+            Err(Refusal::DuplicateEntry) => return Err(Refusal::DuplicateEntry),
+            Err(_) => (),
         }
     }
-}
-
-fn bytes(blob: &[u8], which: Component) -> &[u8] {
-    if firmware::cpd_marker(blob) {
-        firmware::huc_part(blob, which)
-    } else {
-        firmware::css_part(blob, which)
+    match component_named(name) {
+        Some(which) => Ok(Some(Part::Component(which))),
+        None => Ok(None),
     }
 }
 
-// What a part is, in words.
-fn described(rt: &impl Print, which: usize, name: &[u8]) -> io::Result<()> {
-    say::line(rt, b"uCode\nRSA\nmodulus\nexponent\nentry \n", which)?;
-    if which == ENTRY {
-        say::quoted(rt, name)?;
+fn component_named(name: &[u8]) -> Option<Component> {
+    match name {
+        b"ucode" => Some(Component::Ucode),
+        b"rsa" => Some(Component::Rsa),
+        b"modulus" => Some(Component::Modulus),
+        b"exponent" => Some(Component::Exponent),
+        _ => None,
     }
-    Ok(())
 }
 
-// Writes the bytes of a part to the file that argument `out` names.
+// A part's bytes; none where it is not in the file.
+fn bytes<'a>(blob: &'a [u8], part: Part<'_>) -> &'a [u8] {
+    match part {
+        Part::Entry(name) => firmware::cpd_part(blob, name),
+        Part::Component(which) if firmware::cpd_marker(blob) => firmware::huc_part(blob, which),
+        Part::Component(which) => firmware::css_part(blob, which),
+    }
+}
+
+// Writes the bytes of a part to the file that word `out` names.
 fn written(
     rt: &(impl Print + Files + Env),
+    part: Part<'_>,
     bytes: &[u8],
-    which: usize,
-    name: &[u8],
     out: usize,
-) -> io::Result<u32> {
+) -> io::Result<Class> {
     if bytes.is_empty() {
-        say::text(rt, b"  not written: nothing is in the file of ")?;
-        described(rt, which, name)?;
-        say::end(rt)?;
-        return Ok(verdicts::NOT_WRITTEN);
+        println!(rt; "  not written: nothing is in the file of {part}")?;
+        return Ok(Class::NotWritten);
     }
     let mut room = say::room();
     let path = say::word(rt, out, &mut room);
+    let quoted = Quoted(path);
     if let Err(e) = stored(rt, bytes, path) {
-        say::text(rt, b"  not written, to ")?;
-        reading::name(rt, path)?;
-        say::reason(rt, e.kind())?;
-        return Ok(verdicts::NOT_WRITTEN);
+        println!(rt; "  not written, to {quoted}: {}", Reason(e.kind()))?;
+        return Ok(Class::NotWritten);
     }
-    say::one(rt, b"  written: % bytes of ", bytes.len() as u64)?;
-    described(rt, which, name)?;
-    say::text(rt, b", to ")?;
-    say::quoted(rt, path)?;
-    say::end(rt)?;
-    Ok(verdicts::GOOD)
+    let n = bytes.len();
+    println!(rt; "  written: {n} bytes of {part}, to {quoted}")?;
+    Ok(Class::Good)
 }
 
 // Stores the bytes in a file that is new: one that is there is never overwritten, and one that is not written whole is

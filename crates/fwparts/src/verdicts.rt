@@ -1,50 +1,48 @@
-// The classes of a file, and the words that a verdict line starts with.
+// The classes of a file, and the lines that give one.
+use firmware::Figures;
+use refusal::Refusal;
+use std::{fmt, io};
 
-use std::io;
-
-pub(crate) const GOOD: u32 = 0;
-
-pub(crate) const NOT_GOOD: u32 = 1;
-
-pub(crate) const NOT_JUDGED: u32 = 2;
-
-pub(crate) const NOT_READ: u32 = 3;
-
-pub(crate) const NOT_WRITTEN: u32 = 4;
-
-// How a line of that class starts.
-pub(crate) fn start(rt: &impl Print, class: u32) -> io::Result<u32> {
-    say::line(
-        rt,
-        b"GOOD to load: \nNOT GOOD: \nNOT JUDGED: \nNOT READ: \n",
-        class as usize,
-    )?;
-    Ok(class)
+// What a file is, or what came of it: a part that was asked for can be not written though its file is good.
+#[derive(Clone, Copy, Debug, PartialEq, Eq)]
+pub(crate) enum Class {
+    Good,
+    NotGood,
+    NotJudged,
+    NotRead,
+    NotWritten,
 }
 
-// A file that a number refuses: its sentence.
-pub(crate) fn refused(rt: &impl Print, code: u32) -> io::Result<u32> {
-    refused_part(rt, b"", code)
+// As a verdict line starts.
+impl fmt::Display for Class {
+    fn fmt<W: fmt::Write>(&self, f: &mut fmt::Formatter<W>) -> fmt::Result {
+        f.write_str(match self {
+            Class::Good => "GOOD to load",
+            Class::NotGood => "NOT GOOD",
+            Class::NotJudged => "NOT JUDGED",
+            Class::NotRead => "NOT READ",
+            Class::NotWritten => "NOT WRITTEN",
+        })
+    }
+}
+
+// A file that is refused: the sentence, and the number.
+pub(crate) fn refused(rt: &impl Print, why: Refusal) -> io::Result<Class> {
+    refused_part(rt, "", why)
 }
 
 // The same of a part in a directory, behind its name.
-pub(crate) fn refused_part(rt: &impl Print, name: &[u8], code: u32) -> io::Result<u32> {
-    start(rt, NOT_GOOD)?;
-    say::text(rt, name)?;
-    say::sentence(rt, code)?;
-    say::one(rt, b" (%)\n", code as u64)?;
-    Ok(NOT_GOOD)
+pub(crate) fn refused_part(rt: &impl Print, part: &str, why: Refusal) -> io::Result<Class> {
+    let class = Class::NotGood;
+    println!(rt; "{class}: {part}{why} ({})", why.number())?;
+    Ok(class)
 }
 
 // Bytes needed and there, in a line of its own where some are missing.
-pub(crate) fn shortage(rt: &impl Print, f: firmware::Figures) -> io::Result<()> {
-    if f.there < f.needed {
-        say::two(
-            rt,
-            b"  needs % bytes, has %\n",
-            f.needed as u64,
-            f.there as u64,
-        )?;
+pub(crate) fn shortage(rt: &impl Print, f: Figures) -> io::Result<()> {
+    let Figures { needed, there, .. } = f;
+    if there < needed {
+        println!(rt; "  needs {needed} bytes, has {there}")?;
     }
     Ok(())
 }

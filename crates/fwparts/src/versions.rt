@@ -1,53 +1,62 @@
-// Versions as numbers: whether one is what is expected, and whether two differ.
-use crate::options::Expected;
+// Versions as numbers, to compare: an image has three, a manifest four.
 use firmware::{ManifestVersion, Version};
-use std::io;
+use refusal::Refusal;
+use std::fmt;
 
-// An image's three numbers, with 0 behind them; all 0 where it has none.
-pub(crate) fn of_image(v: Version) -> [u64; 4] {
+// An image's; all 0 where it has none.
+pub(crate) fn of_image(v: Result<Version, Refusal>) -> [u16; 3] {
     match v {
-        Version::Refused(_) => [0, 0, 0, 0],
-        Version::Known {
-            major,
-            minor,
-            patch,
-        } => [major as u64, minor as u64, patch as u64, 0],
+        Ok(v) => [u16::from(v.major), u16::from(v.minor), u16::from(v.patch)],
+        Err(_) => [0; 3],
     }
 }
 
-// A manifest's four.
-pub(crate) fn of_manifest(v: ManifestVersion) -> [u64; 4] {
+// A manifest's, the same.
+pub(crate) fn of_manifest(v: Result<ManifestVersion, Refusal>) -> [u16; 4] {
     match v {
-        ManifestVersion::Refused(_) => [0, 0, 0, 0],
-        ManifestVersion::Known {
-            major,
-            minor,
-            hotfix,
-            build,
-        } => [major as u64, minor as u64, hotfix as u64, build as u64],
+        Ok(v) => [v.major, v.minor, v.hotfix, v.build],
+        Err(_) => [0; 4],
     }
 }
 
-// Whether the first three numbers are the same.
-pub(crate) fn three_same(a: [u64; 4], b: [u64; 4]) -> bool {
-    (a[0] == b[0]) & (a[1] == b[1]) & (a[2] == b[2])
+// A version that is expected: three numbers, or all four of a directory.
+#[derive(Clone, Copy, Debug, PartialEq, Eq)]
+pub(crate) enum Expected {
+    Three([u16; 3]),
+    Four([u16; 4]),
 }
 
-// Whether a version of so many numbers is the one that is expected, by as many as are given, or none is expected.
-pub(crate) fn meets(numbers: [u64; 4], count: usize, expect: Expected) -> bool {
-    let wanted = expect.numbers;
-    let three = three_same(numbers, wanted);
-    let four = three & (numbers[3] == wanted[3]) & (count == 4);
-    (expect.given == 0) | ((expect.given == 3) & three) | ((expect.given == 4) & four)
-}
-
-// The version that was expected instead; ends the line.
-pub(crate) fn unexpected(rt: &impl Print, expect: Expected) -> io::Result<()> {
-    let n = expect.numbers;
-    if expect.given == 4 {
-        say::four(rt, b", expected %.%.%.%\n", n[0], n[1], n[2], n[3])?;
-    } else {
-        say::four(rt, b", expected %.%.%\n", n[0], n[1], n[2], 0)?;
+impl Expected {
+    // The version that a word is: three or four numbers below 65,536 with a dot between.
+    pub(crate) fn of_word(word: &[u8]) -> Option<Expected> {
+        let mut numbers = str::from_utf8(word)
+            .ok()?
+            .split('.')
+            .map(|n| say::decimal(n));
+        let a = numbers.next()??;
+        let b = numbers.next()??;
+        let c = numbers.next()??;
+        match (numbers.next(), numbers.next()) {
+            (None, _) => Some(Expected::Three([a, b, c])),
+            (Some(d), None) => Some(Expected::Four([a, b, c, d?])),
+            _ => None,
+        }
     }
-    Ok(())
+
+    // Whether a version is this one, by as many numbers as are given.
+    pub(crate) fn is_met_by(self, numbers: &[u16]) -> bool {
+        match self {
+            Expected::Three(wanted) => numbers.starts_with(&wanted),
+            Expected::Four(wanted) => numbers.starts_with(&wanted),
+        }
+    }
+}
+
+impl fmt::Display for Expected {
+    fn fmt<W: fmt::Write>(&self, f: &mut fmt::Formatter<W>) -> fmt::Result {
+        match self {
+            Expected::Three([a, b, c]) => write!(f, "{a}.{b}.{c}"),
+            Expected::Four([a, b, c, d]) => write!(f, "{a}.{b}.{c}.{d}"),
+        }
+    }
 }

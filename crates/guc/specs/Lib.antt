@@ -2,3 +2,4 @@ pub mod Messages
 pub mod BothWays
 pub mod Parts
 pub mod Interface
+pub mod Records

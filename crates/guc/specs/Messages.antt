@@ -1,6 +1,6 @@
 -- Messages for C: numbers in the place of enums, and zeros where a refusal answers nothing.
 use Rattle.std.specs.Prelude.{ℕ, ◌-◌, Bool, true, ◌&&◌, cond, List, [], ◌∷◌, eqb, leb, length}
-use Rattle.std.proofs.Math.Option.{Option, none, some, Option-elim}
+use Rattle.std.proofs.Math.Option.{Option, Option-elim}
 use Rattle.message.specs.Fields.{Field, bits_of, FieldValue}
 use Rattle.message.specs.Types.{type_of, carried, bodies_from, of_type}
 use Rattle.message.specs.Packing.{Answer, origin_number, origin_of, pack_answer}
@@ -8,8 +8,6 @@ use Rattle.message.specs.declared.Body.{Body}
 use Rattle.message.specs.declared.Message.{Message}
 use Rattle.guc.specs.declared.messages.Packed.{Packed}
 use Rattle.guc.specs.declared.messages.Unpacked.{Unpacked}
-use Rattle.guc.specs.declared.messages.Typed.{Typed}
-use Rattle.guc.specs.declared.messages.Typed.TheVariants as typed
 
 -- the interface's own number: no such HXG type, or component of an image
 abbrev pub no_such : ℕ
@@ -22,10 +20,6 @@ number_for first second f = cond (eqb (bits_of f).high 15 && eqb (bits_of f).low
 -- the body of a type with these, or none
 unfoldable pub body_for : ℕ → ℕ → ℕ → Option Body
 body_for t first second = of_type t (bodies_from (number_for first second))
-
-unfoldable pub of_typed : Typed → Option Body
-of_typed typed.Unknown = none
-of_typed (typed.Known b) = some b
 
 -- a field that the type does not have has no place: any number but 0 is too wide for it
 unfoldable pub spare : Body → ℕ → Bool

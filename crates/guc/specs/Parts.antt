@@ -2,20 +2,17 @@
 -- numbers.
 use Rattle.std.specs.Prelude.{ℕ, Bool, cond, List, ◌++◌, eqb, ltb, length, get_or, drop}
 use Rattle.std.proofs.Math.Option.{Option, none, some, Option-elim}
-use Rattle.firmware.specs.Bytes.{bytes}
+use Rattle.firmware.specs.Bytes.{Location, bytes}
 use Rattle.firmware.specs.Css
 use Rattle.firmware.specs.Cpd
 use Rattle.firmware.specs.Inside.{huc_located, huc_number, huc_span, huc_truncated}
 use Rattle.firmware.specs.Version.{Reading}
-use Rattle.firmware.specs.declared.bytes.Located.{Located}
 use Rattle.firmware.specs.declared.css.Component.{Component}
 use Rattle.firmware.specs.declared.css.Component.TheVariants.{Ucode, Rsa, Modulus, Exponent}
 use Rattle.guc.specs.Messages.{no_such}
 use Rattle.guc.specs.declared.parts.Image.{Image}
 use Rattle.guc.specs.declared.parts.Part.{Part}
 use Rattle.guc.specs.declared.parts.Copied.{Copied}
-use Rattle.guc.specs.declared.parts.Which.{Which}
-use Rattle.guc.specs.declared.parts.Which.TheVariants as which
 use Rattle.guc.specs.declared.versions.Version.{Version}
 use Rattle.guc.specs.declared.versions.Manifest.{Manifest}
 
@@ -36,12 +33,8 @@ unfoldable pub component_of : ℕ → Option Component
 component_of n =
     cond (eqb n 0) (some Ucode) (cond (eqb n 1) (some Rsa) (cond (eqb n 2) (some Modulus) (cond (eqb n 3) (some Exponent) none)))
 
-unfoldable pub of_which : Which → Option Component
-of_which which.None = none
-of_which (which.One c) = some c
-
 -- where a part lies, as its one judgement says it
-abbrev pub part_by : Located → Part
+abbrev pub part_by : Location → Part
 part_by l = record { code = l.code; truncated = flag l.truncated; start = l.start; len = l.len }
 
 abbrev pub no_part : Part

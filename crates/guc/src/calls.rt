@@ -1,11 +1,14 @@
 // Opening, the steps and the whole calls of a channel, with each side's state in 260 words that the caller keeps. A
 // descriptor has 16 dwords by its type, so that 1 is never answered here.
 ghost use Rattle.std.specs.Prelude.{◌≡◌, []};
+ghost use Rattle.refusal.specs.Numbers.{number_of};
+ghost use Rattle.ring.specs.AtOnce.{len_of};
 ghost use Rattle.channel.specs.Opening.{opening};
 ghost use Rattle.channel.specs.Send;
 ghost use Rattle.channel.specs.Receive;
 ghost use Rattle.side.specs.Words.{state_of, in_words, opened_words};
 
+use refusal::{Refusal, number_of};
 use ring::DESCRIPTOR_DWORDS;
 use side::STATE_WORDS;
 
@@ -15,6 +18,17 @@ use side::STATE_WORDS;
 pub struct Received {
     pub code: u32,
     pub len: usize,
+}
+
+impl From<Result<usize, Refusal>> for Received {
+    ghost from_gives = { λ answer r. (r.code ≡ number_of answer) × (r.len ≡ len_of answer) };
+
+    fn from(answer: Result<usize, Refusal>) -> Received {
+        Received {
+            code: number_of(&answer),
+            len: answer.unwrap_or(0),
+        }
+    }
 }
 
 #[unsafe(no_mangle)]
@@ -27,7 +41,7 @@ pub extern "C" fn guc_open(
     ensures { opened_words result sender.new receiver.new desc.new buf.now
         ≡ opening desc.old buf.now }
 {
-    side::open_channel(sender, receiver, &mut desc[..], buf)
+    number_of(&side::open_channel(sender, receiver, &mut desc[..], buf))
 }
 
 #[unsafe(no_mangle)]
@@ -40,7 +54,7 @@ pub extern "C" fn guc_send_look(
     ensures { in_words result 0 w.new desc.new buf.now []
         ≡ Send.look (state_of w.old) msg.now desc.old buf.now }
 {
-    side::send_look(w, &mut desc[..], buf, msg)
+    number_of(&side::send_look(w, &mut desc[..], buf, msg))
 }
 
 #[unsafe(no_mangle)]
@@ -52,7 +66,7 @@ pub extern "C" fn guc_send_store(
     ensures { in_words result 0 w.new desc.now buf.new []
         ≡ Send.move (state_of w.old) desc.now buf.old }
 {
-    side::send_store(w, &desc[..], buf)
+    number_of(&side::send_store(w, &desc[..], buf))
 }
 
 #[unsafe(no_mangle)]
@@ -64,7 +78,7 @@ pub extern "C" fn guc_send_store_all(
     ensures { in_words result 0 w.new desc.now buf.new []
         ≡ Send.move_all (state_of w.old) desc.now buf.old }
 {
-    side::send_store_all(w, &desc[..], buf)
+    number_of(&side::send_store_all(w, &desc[..], buf))
 }
 
 #[unsafe(no_mangle)]
@@ -76,7 +90,7 @@ pub extern "C" fn guc_send_publish(
     ensures { in_words result 0 w.new desc.new buf.now []
         ≡ Send.publish (state_of w.old) desc.old buf.now }
 {
-    side::send_publish(w, &mut desc[..], buf)
+    number_of(&side::send_publish(w, &mut desc[..], buf))
 }
 
 #[unsafe(no_mangle)]
@@ -89,7 +103,7 @@ pub extern "C" fn guc_send(
     ensures { in_words result 0 w.new desc.new buf.new []
         ≡ Send.whole (state_of w.old) msg.now desc.old buf.old }
 {
-    side::send(w, &mut desc[..], buf, msg)
+    number_of(&side::send(w, &mut desc[..], buf, msg))
 }
 
 #[unsafe(no_mangle)]
@@ -101,7 +115,7 @@ pub extern "C" fn guc_receive_look(
     ensures { in_words result 0 w.new desc.new buf.now []
         ≡ Receive.look (state_of w.old) desc.old buf.now }
 {
-    side::receive_look(w, &mut desc[..], buf)
+    number_of(&side::receive_look(w, &mut desc[..], buf))
 }
 
 #[unsafe(no_mangle)]
@@ -113,7 +127,7 @@ pub extern "C" fn guc_receive_copy(
     ensures { in_words result 0 w.new desc.now buf.now []
         ≡ Receive.move (state_of w.old) desc.now buf.now }
 {
-    side::receive_copy(w, &desc[..], buf)
+    number_of(&side::receive_copy(w, &desc[..], buf))
 }
 
 #[unsafe(no_mangle)]
@@ -125,7 +139,7 @@ pub extern "C" fn guc_receive_copy_all(
     ensures { in_words result 0 w.new desc.now buf.now []
         ≡ Receive.move_all (state_of w.old) desc.now buf.now }
 {
-    side::receive_copy_all(w, &desc[..], buf)
+    number_of(&side::receive_copy_all(w, &desc[..], buf))
 }
 
 #[unsafe(no_mangle)]
@@ -138,11 +152,7 @@ pub extern "C" fn guc_receive_publish(
     ensures { in_words result.code result.len w.new desc.new buf.now out.new
         ≡ Receive.publish (state_of w.old) out.old desc.old buf.now }
 {
-    let laid = side::receive_publish(w, &mut desc[..], buf, out);
-    Received {
-        code: laid.code,
-        len: laid.len,
-    }
+    Received::from(side::receive_publish(w, &mut desc[..], buf, out))
 }
 
 #[unsafe(no_mangle)]
@@ -155,9 +165,5 @@ pub extern "C" fn guc_receive(
     ensures { in_words result.code result.len w.new desc.new buf.now out.new
         ≡ Receive.whole (state_of w.old) out.old desc.old buf.now }
 {
-    let laid = side::receive(w, &mut desc[..], buf, out);
-    Received {
-        code: laid.code,
-        len: laid.len,
-    }
+    Received::from(side::receive(w, &mut desc[..], buf, out))
 }

@@ -8,9 +8,9 @@ ghost use Rattle.guc.specs.Interface.{interface};
 
 mod calls;
 mod messages;
+mod numbers;
 mod parts;
 mod records;
-mod refusal;
 mod replies;
 mod versions;
 mod whole;

@@ -1,12 +1,13 @@
 // Packing and unpacking for C: a message as six numbers.
 ghost use Rattle.std.specs.Prelude.{◌≡◌};
-ghost use Rattle.message.specs.Packing.{unpack_answer, origin_of, origin_number, pack_answer};
-ghost use Rattle.guc.specs.Messages.{body_for, of_typed, spare, not_packed, packing, packed_by, said_by, unpacked_by};
+ghost use Rattle.std.proofs.Math.Option.{some};
+ghost use Rattle.message.specs.Types.{carried, type_number};
+ghost use Rattle.message.specs.Packing.{unpack_answer, origin_of, pack_answer};
+ghost use Rattle.guc.specs.Messages.{body_for, spare, not_packed, packing, packed_by, nth, said_by, unpacked_by};
 
-use crate::refusal::NO_SUCH;
-use firmware::refusal::BAD_FIELD;
-use message::{Body, Message, Origin};
-use ring::refusal::BAD_MESSAGE;
+use crate::numbers::NO_SUCH;
+use message::{Body, Message, Origin, Type};
+use refusal::Refusal;
 
 // 0 and the two dwords, or the number that refuses it.
 #[repr(C)]
@@ -30,37 +31,30 @@ pub struct Unpacked {
     pub second: u32,
 }
 
-// The body that a type's number and two fields make.
-#[derive(Clone, Copy)]
-pub(crate) enum Typed {
-    Unknown,
-    Known(Body),
-}
-
-fn of_type(t: u32, first: u32, second: u32) -> Typed
-    ensures { of_typed result ≡ body_for t first second }
+// The body that a type and two fields make.
+fn of_type(t: Type, first: u32, second: u32) -> Body
+    ensures { body_for (type_number t) first second ≡ some result }
 {
     match t {
-        message::TYPE_REQUEST => Typed::Known(Body::Request {
+        Type::Request => Body::Request {
             data: first,
             action: second,
-        }),
-        message::TYPE_EVENT => Typed::Known(Body::Event {
+        },
+        Type::Event => Body::Event {
             data: first,
             action: second,
-        }),
-        message::TYPE_FAST_REQUEST => Typed::Known(Body::FastRequest {
+        },
+        Type::FastRequest => Body::FastRequest {
             data: first,
             action: second,
-        }),
-        message::TYPE_BUSY => Typed::Known(Body::Busy { counter: first }),
-        message::TYPE_RETRY => Typed::Known(Body::Retry { reason: first }),
-        message::TYPE_FAILURE => Typed::Known(Body::Failure {
+        },
+        Type::Busy => Body::Busy { counter: first },
+        Type::Retry => Body::Retry { reason: first },
+        Type::Failure => Body::Failure {
             hint: first,
             error: second,
-        }),
-        message::TYPE_SUCCESS => Typed::Known(Body::Success { data: first }),
-        _ => Typed::Unknown,
+        },
+        Type::Success => Body::Success { data: first },
     }
 }
 
@@ -69,28 +63,13 @@ fn spare(b: Body, second: u32) -> bool
     ensures { result ≡ spare b second }
 {
     match b {
-        Body::Request { data: _, action: _ } => true,
-        Body::Event { data: _, action: _ } => true,
-        Body::FastRequest { data: _, action: _ } => true,
-        Body::Busy { counter: _ } => second == 0,
-        Body::Retry { reason: _ } => second == 0,
-        Body::Failure { hint: _, error: _ } => true,
-        Body::Success { data: _ } => second == 0,
-    }
-}
-
-fn origin_of(bit: u32) -> Origin
-    ensures { result ≡ origin_of bit }
-{
-    if bit == 0 { Origin::Host } else { Origin::Guc }
-}
-
-fn origin_number(o: Origin) -> u32
-    ensures { result ≡ origin_number o }
-{
-    match o {
-        Origin::Host => 0,
-        Origin::Guc => 1,
+        Body::Request { .. } => true,
+        Body::Event { .. } => true,
+        Body::FastRequest { .. } => true,
+        Body::Busy { .. } => second == 0,
+        Body::Retry { .. } => second == 0,
+        Body::Failure { .. } => true,
+        Body::Success { .. } => second == 0,
     }
 }
 
@@ -108,12 +87,8 @@ fn pack_message(m: Message) -> Packed
     ensures { result ≡ packed_by (pack_answer m) }
 {
     match message::pack(m) {
-        message::Packed::Unfit => Packed {
-            code: BAD_FIELD,
-            header: 0,
-            word: 0,
-        },
-        message::Packed::Dwords(header, word) => Packed {
+        Err(r) => not_packed(r.number()),
+        Ok((header, word)) => Packed {
             code: 0,
             header,
             word,
@@ -127,7 +102,7 @@ fn packed_as(origin: u32, fence: u32, num_dwords: u32, body: Body) -> Packed
         (pack_answer (record { origin = origin_of origin; fence = fence; num_dwords = num_dwords; body = body })) }
 {
     pack_message(Message {
-        origin: origin_of(origin),
+        origin: Origin::of(origin),
         fence,
         num_dwords,
         body,
@@ -145,73 +120,46 @@ pub extern "C" fn guc_pack(
 ) -> Packed
     ensures { result ≡ packing origin fence num_dwords hxg_type first second }
 {
-    match of_type(hxg_type, first, second) {
-        Typed::Unknown => not_packed(NO_SUCH),
-        Typed::Known(body) => {
-            if (origin <= 1) & spare(body, second) {
-                packed_as(origin, fence, num_dwords, body)
-            } else {
-                not_packed(BAD_FIELD)
-            }
-        }
+    let Ok(t) = Type::try_from(hxg_type) else {
+        return not_packed(NO_SUCH);
+    };
+    let body = of_type(t, first, second);
+    if (origin <= 1) & spare(body, second) {
+        packed_as(origin, fence, num_dwords, body)
+    } else {
+        not_packed(Refusal::BadField.number())
+    }
+}
+
+// The fields of a body as two numbers; 0 for a second one that its type does not have.
+#[tactic(auto, unfolding(crate::specs::Messages::nth, message::specs::Types::carried))]
+fn fields(b: Body) -> (u32, u32)
+    ensures { result ≡ (nth 0 (carried b), nth 1 (carried b)) }
+{
+    match b {
+        Body::Request { data, action } => (data, action),
+        Body::Event { data, action } => (data, action),
+        Body::FastRequest { data, action } => (data, action),
+        Body::Busy { counter } => (counter, 0),
+        Body::Retry { reason } => (reason, 0),
+        Body::Failure { hint, error } => (hint, error),
+        Body::Success { data } => (data, 0),
     }
 }
 
 // What a decoded message says, in numbers.
-fn said(
-    origin: u32,
-    fence: u32,
-    num_dwords: u32,
-    hxg_type: u32,
-    first: u32,
-    second: u32,
-) -> Unpacked
-    ensures { result ≡ record {
-      code = 0;
-      origin = origin;
-      fence = fence;
-      num_dwords = num_dwords;
-      hxg_type = hxg_type;
-      first = first;
-      second = second;
-    } }
-{
-    Unpacked {
-        code: 0,
-        origin,
-        fence,
-        num_dwords,
-        hxg_type,
-        first,
-        second,
-    }
-}
-
 fn decoded(m: Message) -> Unpacked
     ensures { result ≡ said_by m }
 {
-    let o = m.origin;
-    let origin = origin_number(o);
-    let fence = m.fence;
-    let n = m.num_dwords;
-    let body = m.body;
-    match body {
-        Body::Request { data, action } => said(
-            origin,
-            fence,
-            n,
-            message::TYPE_REQUEST,
-            data,
-            action,
-        ),
-        Body::Event { data, action } => said(origin, fence, n, message::TYPE_EVENT, data, action),
-        Body::FastRequest { data, action } => {
-            said(origin, fence, n, message::TYPE_FAST_REQUEST, data, action)
-        }
-        Body::Busy { counter } => said(origin, fence, n, message::TYPE_BUSY, counter, 0),
-        Body::Retry { reason } => said(origin, fence, n, message::TYPE_RETRY, reason, 0),
-        Body::Failure { hint, error } => said(origin, fence, n, message::TYPE_FAILURE, hint, error),
-        Body::Success { data } => said(origin, fence, n, message::TYPE_SUCCESS, data, 0),
+    let (first, second) = fields(m.body);
+    Unpacked {
+        code: 0,
+        origin: u32::from(m.origin),
+        fence: m.fence,
+        num_dwords: m.num_dwords,
+        hxg_type: u32::from(m.body.kind()),
+        first,
+        second,
     }
 }
 
@@ -220,8 +168,8 @@ pub extern "C" fn guc_unpack(msg: &[u32]) -> Unpacked
     ensures { result ≡ unpacked_by (unpack_answer msg.now) }
 {
     match message::unpack(msg) {
-        message::Unpacked::Malformed => Unpacked {
-            code: BAD_MESSAGE,
+        Err(r) => Unpacked {
+            code: r.number(),
             origin: 0,
             fence: 0,
             num_dwords: 0,
@@ -229,6 +177,6 @@ pub extern "C" fn guc_unpack(msg: &[u32]) -> Unpacked
             first: 0,
             second: 0,
         },
-        message::Unpacked::Decoded(m) => decoded(m),
+        Ok(m) => decoded(m),
     }
 }

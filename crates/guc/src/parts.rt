@@ -1,14 +1,17 @@
 // Firmware parts for C: located, and copied out in the call that judges them. One call makes one judgement: number,
 // start and length are that one's.
-ghost use Rattle.std.specs.Prelude.{◌≡◌, ◌++◌, ◌+◌, ◌≤◌, length, drop};
-ghost use Rattle.firmware.specs.Bytes.{bytes, span};
+ghost use Rattle.std.specs.Prelude.{◌≡◌, ◌++◌, ◌+◌, ◌≤◌, length, drop, MatchOption};
+ghost use Rattle.std.proofs.Math.Option.{none, some};
+ghost use Rattle.firmware.specs.Bytes.{bytes, of_located, span};
 ghost use Rattle.firmware.specs.Css;
+ghost use Rattle.firmware.specs.Css.{of_answer};
 ghost use Rattle.firmware.specs.Inside.{huc_number, huc_truncated};
-ghost use Rattle.guc.specs.Parts.{image_by, component_of, of_which, css_part, huc_part, cpd_part, flag, part_by};
+ghost use Rattle.guc.specs.Parts.{image_by, component_of, css_part, huc_part, cpd_part, flag, part_by};
 ghost use Rattle.guc.specs.Parts.{copied, copied_by, css_copy, huc_copy, cpd_copy};
 
-use crate::refusal::{NO_ROOM, NO_SUCH};
+use crate::numbers::{NO_ROOM, NO_SUCH};
 use firmware::{Component, ImageAnswer, Located};
+use refusal::{Refusal, number_of};
 
 // The components' numbers for C, in their order.
 const PART_UCODE: u32 = 0;
@@ -48,49 +51,68 @@ pub struct Copied {
     pub len: usize,
 }
 
-#[derive(Clone, Copy)]
-pub(crate) enum Which {
-    None,
-    One(Component),
-}
-
 // The component of a number.
-fn component(which: u32) -> Which
-    ensures { of_which result ≡ component_of which }
+fn component(which: u32) -> Option<Component>
+    ensures { MatchOption result (component_of which ≡ none) (λ c. component_of which ≡ some c) }
 {
     match which {
-        PART_UCODE => Which::One(Component::Ucode),
-        PART_RSA => Which::One(Component::Rsa),
-        PART_MODULUS => Which::One(Component::Modulus),
-        PART_EXPONENT => Which::One(Component::Exponent),
-        _ => Which::None,
+        PART_UCODE => Some(Component::Ucode),
+        PART_RSA => Some(Component::Rsa),
+        PART_MODULUS => Some(Component::Modulus),
+        PART_EXPONENT => Some(Component::Exponent),
+        _ => None,
     }
 }
 
-// Truncated or not, as C has it.
-fn flag(t: bool) -> u32
-    ensures { result ≡ flag t }
-{
-    if t { 1 } else { 0 }
-}
+impl From<Result<ImageAnswer, Refusal>> for Image {
+    ghost from_gives = { λ a r. r ≡ image_by (of_answer a).code (of_answer a).truncated };
 
-fn as_image(a: ImageAnswer) -> Image
-    ensures { result ≡ image_by a.code a.truncated }
-{
-    Image {
-        code: a.code,
-        truncated: flag(a.truncated),
+    fn from(a: Result<ImageAnswer, Refusal>) -> Image {
+        Image {
+            code: number_of(&a),
+            truncated: a.map_or(0, |a| u32::from(a.truncated)),
+        }
     }
 }
 
-fn as_part(l: Located) -> Part
-    ensures { result ≡ part_by l }
-{
-    Part {
-        code: l.code,
-        truncated: flag(l.truncated),
-        start: l.start,
-        len: l.len,
+impl From<Result<Located, Refusal>> for Part {
+    ghost from_gives = { λ l r. r ≡ part_by (of_located l) };
+
+    fn from(l: Result<Located, Refusal>) -> Part {
+        match l {
+            Ok(l) => Part {
+                code: 0,
+                truncated: u32::from(l.truncated),
+                start: l.start,
+                len: l.len,
+            },
+            Err(r) => Part::refused(r.number()),
+        }
+    }
+}
+
+impl Part {
+    fn refused(code: u32) -> Part
+        ensures { result ≡ record { code = code; truncated = 0; start = 0; len = 0 } }
+    {
+        Part {
+            code,
+            truncated: 0,
+            start: 0,
+            len: 0,
+        }
+    }
+}
+
+impl Copied {
+    fn refused(code: u32) -> Copied
+        ensures { result ≡ record { code = code; truncated = 0; len = 0 } }
+    {
+        Copied {
+            code,
+            truncated: 0,
+            len: 0,
+        }
     }
 }
 
@@ -98,16 +120,14 @@ fn as_part(l: Located) -> Part
 pub extern "C" fn guc_css_answer(blob: &[u8]) -> Image
     ensures { result ≡ image_by (Css.number blob.now) (Css.truncated blob.now) }
 {
-    let a = firmware::css_answer(blob);
-    as_image(a)
+    Image::from(firmware::css_answer(blob))
 }
 
 #[unsafe(no_mangle)]
 pub extern "C" fn guc_huc_answer(blob: &[u8]) -> Image
     ensures { result ≡ image_by (huc_number blob.now) (huc_truncated blob.now) }
 {
-    let a = firmware::huc_answer(blob);
-    as_image(a)
+    Image::from(firmware::huc_answer(blob))
 }
 
 #[unsafe(no_mangle)]
@@ -115,16 +135,8 @@ pub extern "C" fn guc_css_part(blob: &[u8], which: u32) -> Part
     ensures { result ≡ css_part which blob.now }
 {
     match component(which) {
-        Which::None => Part {
-            code: NO_SUCH,
-            truncated: 0,
-            start: 0,
-            len: 0,
-        },
-        Which::One(c) => {
-            let l = firmware::css_located(blob, c);
-            as_part(l)
-        }
+        Some(c) => Part::from(firmware::css_located(blob, c)),
+        None => Part::refused(NO_SUCH),
     }
 }
 
@@ -133,16 +145,8 @@ pub extern "C" fn guc_huc_part(blob: &[u8], which: u32) -> Part
     ensures { result ≡ huc_part which blob.now }
 {
     match component(which) {
-        Which::None => Part {
-            code: NO_SUCH,
-            truncated: 0,
-            start: 0,
-            len: 0,
-        },
-        Which::One(c) => {
-            let l = firmware::huc_located(blob, c);
-            as_part(l)
-        }
+        Some(c) => Part::from(firmware::huc_located(blob, c)),
+        None => Part::refused(NO_SUCH),
     }
 }
 
@@ -150,34 +154,25 @@ pub extern "C" fn guc_huc_part(blob: &[u8], which: u32) -> Part
 pub extern "C" fn guc_cpd_part(blob: &[u8], name: &[u8]) -> Part
     ensures { result ≡ cpd_part blob.now name.now }
 {
-    let l = firmware::cpd_located(blob, name);
-    as_part(l)
+    Part::from(firmware::cpd_located(blob, name))
 }
 
-// Copies src to the front of dst: a straight run, with no test but its end.
-fn copy_bytes(dst: &mut [u8], src: &[u8])
-    requires { length src.now ≤ length dst.old }
-    ensures { dst.new ≡ src.now ++ drop (length src.now) dst.old }
+// Copies out the part that was located, where the destination has room for it: its bytes are read, and nothing that was
+// judged is read again.
+fn copy_part(blob: &[u8], l: Result<Located, Refusal>, dst: &mut [u8]) -> Copied
+    requires { (of_located l).start + (of_located l).len ≤ length blob.now }
+    ensures { copied result dst.new
+        ≡ copied_by (of_located l).code (flag (of_located l).truncated)
+        (bytes blob.now (span (of_located l).start ((of_located l).start + (of_located l).len)))
+        dst.old }
 {
-    let mut i = 0;
-    while i < src.len() {
-        dst[i] = src[i];
-        i += 1;
-    }
-}
-
-// Copies out a part that its judgement accepts, where the destination has room for it.
-fn copy_out(code: u32, truncated: u32, part: &[u8], dst: &mut [u8]) -> Copied
-    ensures { copied result dst.new ≡ copied_by code truncated part.now dst.old }
-{
+    let l = match l {
+        Ok(l) => l,
+        Err(r) => return Copied::refused(r.number()),
+    };
+    let part = &blob[l.start..l.start + l.len];
+    let truncated = u32::from(l.truncated);
     let len = part.len();
-    if code != 0 {
-        return Copied {
-            code,
-            truncated,
-            len: 0,
-        };
-    }
     if dst.len() < len {
         return Copied {
             code: NO_ROOM,
@@ -185,7 +180,7 @@ fn copy_out(code: u32, truncated: u32, part: &[u8], dst: &mut [u8]) -> Copied
             len,
         };
     }
-    copy_bytes(dst, part);
+    slices::copy(dst, part);
     Copied {
         code: 0,
         truncated,
@@ -193,32 +188,13 @@ fn copy_out(code: u32, truncated: u32, part: &[u8], dst: &mut [u8]) -> Copied
     }
 }
 
-// Copies out the part that was located: its bytes are read, and nothing that was judged is read again.
-fn copy_part(blob: &[u8], l: Located, dst: &mut [u8]) -> Copied
-    requires { l.start + l.len ≤ length blob.now }
-    ensures { copied result dst.new
-        ≡ copied_by l.code (flag l.truncated) (bytes blob.now (span l.start (l.start + l.len)))
-        dst.old }
-{
-    let start = l.start;
-    let end = start + l.len;
-    copy_out(l.code, flag(l.truncated), &blob[start..end], dst)
-}
-
 #[unsafe(no_mangle)]
 pub extern "C" fn guc_css_copy(blob: &[u8], which: u32, dst: &mut [u8]) -> Copied
     ensures { copied result dst.new ≡ css_copy which blob.now dst.old }
 {
     match component(which) {
-        Which::None => Copied {
-            code: NO_SUCH,
-            truncated: 0,
-            len: 0,
-        },
-        Which::One(c) => {
-            let l = firmware::css_located(blob, c);
-            copy_part(blob, l, dst)
-        }
+        Some(c) => copy_part(blob, firmware::css_located(blob, c), dst),
+        None => Copied::refused(NO_SUCH),
     }
 }
 
@@ -227,15 +203,8 @@ pub extern "C" fn guc_huc_copy(blob: &[u8], which: u32, dst: &mut [u8]) -> Copie
     ensures { copied result dst.new ≡ huc_copy which blob.now dst.old }
 {
     match component(which) {
-        Which::None => Copied {
-            code: NO_SUCH,
-            truncated: 0,
-            len: 0,
-        },
-        Which::One(c) => {
-            let l = firmware::huc_located(blob, c);
-            copy_part(blob, l, dst)
-        }
+        Some(c) => copy_part(blob, firmware::huc_located(blob, c), dst),
+        None => Copied::refused(NO_SUCH),
     }
 }
 
@@ -243,6 +212,5 @@ pub extern "C" fn guc_huc_copy(blob: &[u8], which: u32, dst: &mut [u8]) -> Copie
 pub extern "C" fn guc_cpd_copy(blob: &[u8], name: &[u8], dst: &mut [u8]) -> Copied
     ensures { copied result dst.new ≡ cpd_copy blob.now name.now dst.old }
 {
-    let l = firmware::cpd_located(blob, name);
-    copy_part(blob, l, dst)
+    copy_part(blob, firmware::cpd_located(blob, name), dst)
 }

@@ -6,6 +6,7 @@ ghost use Rattle.channel.specs.Receive;
 ghost use Rattle.two_words.specs.TwoWords.{idle_of, in_two_words, opened_two_words};
 
 use crate::calls::Received;
+use refusal::number_of;
 use ring::DESCRIPTOR_DWORDS;
 use two_words::WORDS;
 
@@ -19,7 +20,7 @@ pub extern "C" fn guc_whole_open(
     ensures { opened_two_words result sender.new receiver.new desc.new buf.now
         ≡ opening desc.old buf.now }
 {
-    two_words::open(sender, receiver, &mut desc[..], buf)
+    number_of(&two_words::open(sender, receiver, &mut desc[..], buf))
 }
 
 #[unsafe(no_mangle)]
@@ -32,7 +33,7 @@ pub extern "C" fn guc_whole_send(
     ensures { in_two_words result 0 w.new desc.new buf.new []
         ≡ Send.whole (idle_of w.old) msg.now desc.old buf.old }
 {
-    two_words::send(w, &mut desc[..], buf, msg)
+    number_of(&two_words::send(w, &mut desc[..], buf, msg))
 }
 
 #[unsafe(no_mangle)]
@@ -45,9 +46,5 @@ pub extern "C" fn guc_whole_receive(
     ensures { in_two_words result.code result.len w.new desc.new buf.now out.new
         ≡ Receive.whole (idle_of w.old) out.old desc.old buf.now }
 {
-    let laid = two_words::receive(w, &mut desc[..], buf, out);
-    Received {
-        code: laid.code,
-        len: laid.len,
-    }
+    Received::from(two_words::receive(w, &mut desc[..], buf, out))
 }

@@ -1,6 +1,6 @@
 -- Laws about packing and unpacking that the code's proofs cite. Assumes nothing.
 use Prim.Native.Nat.{ℕ, ◌+◌, ◌*◌}
-use mathlib.Core.Path.{◌≡◌, refl}
+use mathlib.Core.Path.{◌≡◌, refl, sym, ◌∙◌}
 use mathlib.Core.Bool.{Bool, true, false, ◌&&◌, cond}
 use mathlib.Core.List.{List}
 use mathlib.Core.Option.{none, some, Option-elim}
@@ -8,7 +8,7 @@ use native.Mathlib.Omega.{arith}
 use lib.ListN.{get_or}
 use lib.Dec.{ltb, leb}
 use Rattle.message.specs.Fields.{fit, dword}
-use Rattle.message.specs.Types.{carried, body_fields, body_of}
+use Rattle.message.specs.Types.{carried, body_fields, body_of, known}
 use Rattle.message.specs.Header.{is_message}
 use Rattle.message.specs.Packing.{origin_number, header_fields, hxg_fields, pack, decoded, unpack}
 use Rattle.message.specs.declared.Origin.{Origin}
@@ -16,7 +16,9 @@ use Rattle.message.specs.declared.Origin.TheVariants.{Host, Guc}
 use Rattle.message.specs.declared.Body.{Body}
 use Rattle.message.specs.declared.Body.TheVariants.{Request, Event, FastRequest, Busy, Retry, Failure, Success}
 use Rattle.message.specs.declared.Message.{Message}
+use Rattle.message.proofs.Tests.{cases}
 use Rattle.message.proofs.Tiling.{tiles}
+use Rattle.message.proofs.Formed.{message_well}
 
 -- the number of an origin fits its bit
 pub origin-fits : (o : Origin) → ltb (origin_number o) 2 ≡ true
@@ -76,3 +78,9 @@ unpack_some d b e f = rw (e, f)
 pub unpack-none : (d : List ℕ) → is_message d ≡ false → unpack d ≡ none
 unfolding unpack
 unpack-none d e = rw e
+
+pub unpack-unknown : (d : List ℕ) → known (get_or d 1 0) ≡ false → unpack d ≡ none
+unpack-unknown d k = cases (is_message d) (λ e. absurd (false-true (sym k ∙ (message_well d e).known-type))) (unpack-none d)
+  where
+    false-true : ◌≡◌ {A = Bool} false true → ⊥
+    false-true e = let z : ◌≡◌ {A = ℕ} 0 1 = cc in omega arith

@@ -1,6 +1,6 @@
 -- Laws about the types of HXG messages. Assumes nothing.
 use Prim.Native.Nat.{ℕ, ◌+◌, ◌≤◌}
-use mathlib.Core.Path.{◌≡◌, refl, subst}
+use mathlib.Core.Path.{◌≡◌, refl, sym, subst}
 use mathlib.Core.Bool.{Bool, true, false, ◌&&◌, cond}
 use mathlib.Core.List.{List, [], ◌∷◌}
 use mathlib.Core.Option.{Option, none, some}
@@ -8,9 +8,13 @@ use native.Mathlib.Omega.{arith}
 use lib.Dec.{eqb}
 use borrow.Author.Tests.{eq-eqb, eqb-true, eqb-false}
 use Rattle.message.specs.Fields.{Field, type, field_of, FieldValue, holds}
-use Rattle.message.specs.Types.{type_of, carried, body_fields, bodies_from, bodies, of_type, body_of, some_body, known}
+use Rattle.std.specs.Prelude.{Result, Ok, Err, is_ok}
+use Rattle.message.specs.Types.{IsTypeOf, type_of, carried, body_fields, bodies_from, bodies, of_type, body_of, some_body, known}
 use Rattle.message.specs.declared.Body.{Body}
 use Rattle.message.specs.declared.Body.TheVariants.{Request, Event, FastRequest, Busy, Retry, Failure, Success}
+use Rattle.message.specs.declared.header.Type as kind
+use Rattle.message.specs.declared.header.Type.TheVariants as kinds
+use Rattle.message.specs.declared.header.UnknownType.{UnknownType}
 use Rattle.message.proofs.Tests.{and_l, and_r, and_i, cases}
 use Rattle.message.proofs.Tiling.{holds-first, holds-rest}
 
@@ -43,16 +47,21 @@ others-known word n =
     (λ e. simp e) (λ e. simp e) (λ e. simp e) (λ e. simp e)
     (λ e. absurd (n e)) (λ e. simp e) (λ e. simp e) (λ e. simp e)
 
--- the type that is left where the others are ruled out
-pub else_success :
-    (word : ℕ) → known word ≡ true
-    → let t = field_of type word in
-    (t ≡ 0 → ⊥) → (t ≡ 1 → ⊥) → (t ≡ 2 → ⊥) → (t ≡ 3 → ⊥) → (t ≡ 5 → ⊥) → (t ≡ 6 → ⊥)
-    → t ≡ 7
-else_success word k n0 n1 n2 n3 n5 n6 =
+-- what is found for the number of a dword's type: known, or unknown
+pub known-found : (word : ℕ) (r : Result kind.Type UnknownType) → IsTypeOf (field_of type word) r → known word ≡ is_ok r
+unfolding known body_of bodies_from bodies of_type type_of some_body
+known-found word (Ok kinds.Request) e = simp (sym e)
+known-found word (Ok kinds.Event) e = simp (sym e)
+known-found word (Ok kinds.FastRequest) e = simp (sym e)
+known-found word (Ok kinds.Busy) e = simp (sym e)
+known-found word (Ok kinds.Retry) e = simp (sym e)
+known-found word (Ok kinds.Failure) e = simp (sym e)
+known-found word (Ok kinds.Success) e = simp (sym e)
+known-found word (Err x) e =
     by_type word
-    (λ e. absurd (n0 e)) (λ e. absurd (n1 e)) (λ e. absurd (n2 e)) (λ e. absurd (n3 e))
-    (λ e. absurd (type_4_unknown word k e)) (λ e. absurd (n5 e)) (λ e. absurd (n6 e)) (λ e. e)
+    (λ q. absurd (e.1 kinds.Request (sym q))) (λ q. absurd (e.1 kinds.Event (sym q))) (λ q. absurd (e.1 kinds.FastRequest (sym q)))
+    (λ q. absurd (e.1 kinds.Busy (sym q))) (λ q. simp q) (λ q. absurd (e.1 kinds.Retry (sym q)))
+    (λ q. absurd (e.1 kinds.Failure (sym q))) (λ q. absurd (e.1 kinds.Success (sym q)))
 
 -- a dword of a known type holds a body, and no other does
 pub body_known : (word : ℕ) (b : Body) → body_of word ≡ some b → known word ≡ true

@@ -1,5 +1,5 @@
 -- Packing and unpacking (document 01, 'Messages'), and what each answers by the paper's numbers.
-use Rattle.std.specs.Prelude.{ℕ, ◌&&◌, cond, List, [], ◌∷◌, get_or, eqb, leb}
+use Rattle.std.specs.Prelude.{ℕ, ◌&&◌, cond, List, [], ◌∷◌, get_or, eqb, leb, Result, Ok, Err}
 use Rattle.std.proofs.Math.Option.{Option, none, some, Option-elim}
 use Rattle.message.specs.Fields.{fence, format, reserved, num_dwords, origin, field_of, FieldValue, fit, dword}
 use Rattle.message.specs.Types.{body_fields, body_of}
@@ -8,10 +8,8 @@ use Rattle.message.specs.declared.Origin.{Origin}
 use Rattle.message.specs.declared.Origin.TheVariants.{Host, Guc}
 use Rattle.message.specs.declared.Body.{Body}
 use Rattle.message.specs.declared.Message.{Message}
-use Rattle.message.specs.declared.Unpacked.{Unpacked}
-use Rattle.message.specs.declared.Unpacked.TheVariants.{Malformed, Decoded}
-use Rattle.message.specs.declared.Packed.{Packed}
-use Rattle.message.specs.declared.Packed.TheVariants.{Unfit, Dwords}
+use Rattle.refusal.specs.declared.Refusal.{Refusal}
+use Rattle.refusal.specs.Numbers.{number}
 
 -- 'origin bit 31 (0 host, 1 GuC)', there and back
 unfoldable pub origin_number : Origin → ℕ
@@ -71,10 +69,10 @@ pack_answer m = refusing 14 (pack m)
 
 -- the paper's number and values for each case of the answers in code: 'A refused packing answers no dword, a refused
 -- unpacking no message'
-unfoldable pub of_unpacked : Unpacked → Answer Message
-of_unpacked Malformed = record { number = 4; value = none }
-of_unpacked (Decoded m) = record { number = 0; value = some m }
+unfoldable pub of_unpacked : Result Message Refusal → Answer Message
+of_unpacked (Err r) = record { number = number r; value = none }
+of_unpacked (Ok m) = record { number = 0; value = some m }
 
-unfoldable pub of_packed : Packed → Answer (ℕ × ℕ)
-of_packed Unfit = record { number = 14; value = none }
-of_packed (Dwords header word) = record { number = 0; value = some (header, word) }
+unfoldable pub of_packed : Result (ℕ × ℕ) Refusal → Answer (ℕ × ℕ)
+of_packed (Err r) = record { number = number r; value = none }
+of_packed (Ok dwords) = record { number = 0; value = some dwords }

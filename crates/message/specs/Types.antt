@@ -2,13 +2,16 @@
 -- Document 02 (T-02) corrects document 01 here: 'The current public HXG header lists type 2, a fast request, which
 -- wants no success reply and is laid out as a request.' Linux names it GUC_HXG_TYPE_FAST_REQUEST. To the channel one
 -- known type is as good as another: who wants which reply is its callers' matter.
-use Rattle.std.specs.Prelude.{ℕ, Bool, true, false, cond, List, [], ◌∷◌, eqb}
+use Rattle.std.specs.Prelude.{ℕ, ◌≡◌, ◌≢◌, Bool, true, false, cond, List, [], ◌∷◌, eqb, Result, MatchResult}
 use Rattle.std.proofs.Math.Option.{Option, none, some}
 use Rattle.message.specs.Fields.{Field, request_data, request_action, event_data, event_action}
 use Rattle.message.specs.Fields.{fast_request_data, fast_request_action, busy_counter, retry_reason, failure_hint}
 use Rattle.message.specs.Fields.{failure_error, success_data, type, field_of, FieldValue}
 use Rattle.message.specs.declared.Body.{Body}
 use Rattle.message.specs.declared.Body.TheVariants.{Request, Event, FastRequest, Busy, Retry, Failure, Success}
+use Rattle.message.specs.declared.header.Type as kind
+use Rattle.message.specs.declared.header.Type.TheVariants as kinds
+use Rattle.message.specs.declared.header.UnknownType.{UnknownType}
 
 -- the columns 'Type' and 'Meaning' of the table: 0 request, 1 event, 2 fast request, 3 busy, 5 retry, 6 failure, 7
 -- success
@@ -20,6 +23,20 @@ type_of (Busy c) = 3
 type_of (Retry r) = 5
 type_of (Failure h e) = 6
 type_of (Success d) = 7
+
+-- the same by the code's enum of types
+abbrev pub type_number : kind.Type → ℕ
+type_number kinds.Request = 0
+type_number kinds.Event = 1
+type_number kinds.FastRequest = 2
+type_number kinds.Busy = 3
+type_number kinds.Retry = 5
+type_number kinds.Failure = 6
+type_number kinds.Success = 7
+
+-- what is found for a number: the type that has it, or the number itself where no type does
+abbrev pub IsTypeOf : ℕ → Result kind.Type UnknownType → Type 0
+IsTypeOf n r = MatchResult r (λ t. type_number t ≡ n) (λ e. (e.0 ≡ n) × ((t : kind.Type) → type_number t ≢ n))
 
 -- the column 'Fields': those of each type, with the number that the body carries in each
 unfoldable pub carried : Body → List FieldValue

@@ -1,8 +1,11 @@
-// The length of a message and what is well formed: the one place where a type is taken as known.
+// The length of a message, its type, and what is well formed: the one place where a type is taken as known.
 ghost use Rattle.std.specs.Prelude.{◌≡◌, get_or};
 ghost use Rattle.message.specs.Fields.{field_of, num_dwords, type};
-ghost use Rattle.message.specs.Types.{known};
+ghost use Rattle.message.specs.Types.{known, type_number, IsTypeOf};
 ghost use Rattle.message.specs.Header.{total_length, well_formed, starts_message, header_with, action_of};
+ghost use Rattle.refusal.specs.declared.Refusal.TheVariants.{BadMessage};
+
+use refusal::Refusal;
 
 // 'NUM_DWORDS 1 to 255'
 const NUM_DWORDS_MAX: u32 = 255;
@@ -14,7 +17,7 @@ pub const MESSAGE_MAX: usize = 256;
 pub fn dword_at(s: &[u32], i: usize) -> u32
     ensures { result ≡ get_or s.now i 0 }
 {
-    if i < s.len() { s[i] } else { 0 }
+    s.get(i).copied().unwrap_or(0)
 }
 
 // NUM_DWORDS of a header: how many dwords follow it.
@@ -31,23 +34,58 @@ pub fn total_length(header: u32) -> usize
     1 + num_dwords(header) as usize
 }
 
-// The columns 'Type' and 'Meaning' of the table of HXG types, with document 02's fast request.
-pub const TYPE_REQUEST: u32 = 0;
+// The columns 'Type' and 'Meaning' of the table of HXG types, with document 02's fast request: 'only type 4 stays
+// unknown'.
+#[derive(Clone, Copy, Debug, PartialEq, Eq)]
+pub enum Type {
+    Request = 0,
+    Event = 1,
+    FastRequest = 2,
+    Busy = 3,
+    Retry = 5,
+    Failure = 6,
+    Success = 7,
+}
 
-pub const TYPE_EVENT: u32 = 1;
+// A number that no type has.
+#[derive(Clone, Copy, Debug, PartialEq, Eq)]
+pub struct UnknownType(pub u32);
 
-pub const TYPE_FAST_REQUEST: u32 = 2;
+impl TryFrom<u32> for Type {
+    type Error = UnknownType;
 
-pub const TYPE_BUSY: u32 = 3;
+    ghost try_from_gives = { IsTypeOf };
 
-pub const TYPE_RETRY: u32 = 5;
+    fn try_from(n: u32) -> Result<Self, UnknownType> {
+        match n {
+            0 => Ok(Type::Request),
+            1 => Ok(Type::Event),
+            2 => Ok(Type::FastRequest),
+            3 => Ok(Type::Busy),
+            5 => Ok(Type::Retry),
+            6 => Ok(Type::Failure),
+            7 => Ok(Type::Success),
+            _ => Err(UnknownType(n)),
+        }
+    }
+}
 
-pub const TYPE_FAILURE: u32 = 6;
+// A message whose type is unknown is malformed.
+impl From<UnknownType> for Refusal {
+    ghost from_gives = { λ _ r. r ≡ BadMessage };
 
-pub const TYPE_SUCCESS: u32 = 7;
+    fn from(_unknown: UnknownType) -> Refusal {
+        Refusal::BadMessage
+    }
+}
 
-// 'only type 4 stays unknown'
-const TYPE_UNKNOWN: u32 = 4;
+impl From<Type> for u32 {
+    ghost from_gives = { λ t n. n ≡ type_number t };
+
+    fn from(t: Type) -> u32 {
+        t as u32
+    }
+}
 
 // The type in an HXG dword 0.
 pub fn hxg_type(word: u32) -> u32
@@ -60,11 +98,11 @@ pub fn hxg_type(word: u32) -> u32
 fn known_type(word: u32) -> bool
     ensures { result ≡ known word }
 {
-    let t = hxg_type(word);
-    t != TYPE_UNKNOWN
+    Type::try_from(hxg_type(word)).is_ok()
 }
 
 // Whether a header and an HXG dword 0 start a well-formed message.
+#[tactic(auto, unfolding(crate::specs::Header::well_formed))]
 pub fn well_formed(header: u32, word: u32) -> bool
     ensures { result ≡ well_formed header word }
 {
@@ -90,8 +128,9 @@ pub fn action_of(word: u32) -> u16
 }
 
 // A header with this fence in the place of its own.
+#[tactic(auto, unfolding(crate::specs::Header::header_with))]
 pub fn with_fence(fence: u16, header: u32) -> u32
     ensures { result ≡ header_with fence header }
 {
-    fence as u32 * 0x1_0000 + header % 0x1_0000
+    u32::from(fence) * 0x1_0000 + header % 0x1_0000
 }

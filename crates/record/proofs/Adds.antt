@@ -9,7 +9,7 @@ use borrow.Author.Tests.{eq-eqb, ne_eqb, lt-ltb, le-ltb}
 use borrow.Rule.Slice.PartMut.{put_mid}
 use Rattle.record.specs.Runs.{judged}
 use Rattle.record.specs.Calls.{at_front, entry_of, add_number, add_answer, add_leaves}
-use Rattle.record.specs.declared.adding.Added.{Added}
+use Rattle.record.specs.Calls.{Added}
 use Rattle.message.proofs.Slices.{to_end}
 use Rattle.record.proofs.Cuts.{whole_by}
 

@@ -17,7 +17,7 @@ use Rattle.record.specs.Numbers.{number_of}
 use Rattle.record.specs.Runs.{is_length, judged_by, judged, wrong, whole}
 use Rattle.record.specs.Files.{run_of, start_of}
 use Rattle.record.specs.Private.{numbers_of, torn, found, later, dwords_of, length_of, message_of, message_in}
-use Rattle.record.specs.declared.finding.Found.{Found}
+use Rattle.record.specs.Private.{Found}
 use Rattle.record.proofs.Forms.{run-good, run-bad, start_zero, start_suc}
 use Rattle.record.proofs.Judging.{length_bounds, by_direction, by_no_length, by_length, by_no_header, by_header, by_end, by_whole}
 use Rattle.record.proofs.Numbered.{enough, few}

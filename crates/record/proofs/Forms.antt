@@ -1,6 +1,6 @@
 -- The numbers of a file, one by one: what the first is to the forms, the run and the starts. Assumes nothing.
 use Prim.Native.Nat.{ℕ, zero, suc, ◌+◌, ◌*◌, ◌%◌, ◌≤◌}
-use mathlib.Core.Path.{◌≡◌, refl, ap, ◌∙◌}
+use mathlib.Core.Path.{◌≡◌, refl, sym, ap, ◌∙◌}
 use mathlib.Core.Bool.{cond}
 use mathlib.Core.List.{List, [], ◌∷◌, map}
 use native.Mathlib.Omega.{arith}
@@ -11,7 +11,7 @@ use lib.Dec.{eqb, ltb}
 use Rattle.message.proofs.Tests.{cases}
 use Rattle.record.specs.Numbers.{good, led, form_of, number_of}
 use Rattle.record.specs.Files.{forms_from, forms, value_of, run_of, size_of, start_of}
-use Rattle.record.specs.declared.numbers.Form.{Form}
+use Rattle.record.specs.Numbers.{Form}
 
 -- a good form that leads with a group is one of good others that are not 0
 pub led-good :
@@ -194,3 +194,7 @@ run_drop f (suc k) l =
     let d : drop (start_of g k) g ≡ drop (n + start_of g k) f = drop-drop (start_of g k) n f in
     rw (start_suc f k h, run-good f h, ← d) (run_drop g k (omega arith)))
     (λ h. rw (start-bad f (suc k) h, run-bad f h))
+
+-- a number that was read is there, within the bytes
+pub there_within : (f : List ℕ) (v s : ℕ) → good v s ≡ number_of f → s ≤ length f
+there_within f v s e = rw (ap (λ n. n.size) e) (number_size f (sym (ap (λ n. n.fault) e))).2

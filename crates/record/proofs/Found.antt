@@ -13,13 +13,13 @@ use borrow.Author.Tests.{eq-eqb, ne_eqb, eqb-true, eqb-false, lt-ltb, le-ltb}
 use Rattle.record.specs.Numbers.{number_of}
 use Rattle.record.specs.Private.{Numbers, numbers_of, onto, stop, torn, found, later}
 use Rattle.record.specs.Private.{dwords_of, length_of, message_of, length_in, message_in, ReadTo, FoundTo}
-use Rattle.record.specs.declared.finding.Found.{Found}
-use Rattle.record.specs.declared.finding.Body.{Body}
+use Rattle.record.specs.Private.{Found}
+use Rattle.record.specs.Private.{Body}
 use Rattle.record.specs.Faults.{bad_direction, bad_length, bad_header}
 use Rattle.record.specs.Runs.{is_length}
 use Rattle.message.proofs.Tests.{cases}
 use Rattle.message.specs.Header.{total_length}
-use Rattle.record.specs.declared.numbers.Form.{Form}
+use Rattle.record.specs.Numbers.{Form}
 use Rattle.record.proofs.Forms.{number_size}
 use Rattle.message.proofs.Slices.{put_front}
 use borrow.Rule.Slice.PartMut.{mid_of, put_mid}
@@ -72,10 +72,10 @@ next-within f at h r e g =
 module _ (copy copy₀ f : List ℕ) (i at : ℕ) (within : at ≤ length f) where
   -- what a fill that ends at a bad number answers
   pub numbers-end :
-      (k : ℕ) → (k ≡ 0 → ⊥) → numbers_of (length copy₀) f ≡ onto (take i copy) at (stop k)
-      → ReadTo (record { fault = k; size = at }) copy copy₀ f
+      (after : List ℕ) (k : ℕ) → (k ≡ 0 → ⊥) → numbers_of (length copy₀) f ≡ onto (take i copy) at (stop k)
+      → ReadTo (record { fault = k; size = at }) after copy₀ f
   unfolding onto
-  numbers-end k bad e =
+  numbers-end after k bad e =
       record {
         fault = sym (ap (λ n. n.fault) e);
         size = sym (ap (λ n. n.size) e ∙ omega arith);

@@ -14,7 +14,7 @@ use Rattle.message.proofs.Tests.{cases, and_false}
 use Rattle.record.specs.Faults.{unfinished, missing, above}
 use Rattle.record.specs.Numbers.{good, faulty, led, form_of, number_of}
 use Rattle.record.specs.Private.{ended, carried}
-use Rattle.record.specs.declared.numbers.Form.{Form}
+use Rattle.record.specs.Numbers.{Form}
 
 -- a form with its fault written out
 same_fault : (f : Form) (k : ℕ) → f.fault ≡ k → record { fault = k; value = f.value; size = f.size } ≡ f
@@ -71,10 +71,6 @@ holds_group (suc zero) v x h l m = (omega arith, omega arith, refl)
 holds_group (suc (suc zero)) v x h l m = (omega arith, omega arith, refl)
 holds_group (suc (suc (suc zero))) v x h l m = (omega arith, omega arith, refl)
 holds_group (suc (suc (suc (suc s)))) v x h l m = absurd (omega arith)
-
--- and a fifth of four bits
-pub holds_fifth : (v x : ℕ) → v < 128 ^ 4 → x < 16 → v + 128 ^ 4 * x < 2 ^ 32
-holds_fifth v x l m = omega arith
 
 -- ---- the number of some bytes, from its first group on
 

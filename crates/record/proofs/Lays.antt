@@ -13,7 +13,7 @@ use Rattle.message.proofs.Tests.{cases}
 use Rattle.record.specs.Files.{run_of, whole_of, took_of, messages_of, intact, bad_of, fault_of}
 use Rattle.record.specs.Calls.{read_number, read_answer, read_leaves}
 use Rattle.record.specs.Private.{LaidTo}
-use Rattle.record.specs.declared.reading.ReadBack.{ReadBack}
+use Rattle.record.specs.Calls.{ReadBack}
 use Rattle.record.proofs.Slices.{filled_all}
 
 -- a message at the front of a copy

@@ -1,3 +1,4 @@
+pub mod Figures
 pub mod Slices
 pub mod Judging
 pub mod Groups
@@ -5,6 +6,7 @@ pub mod Sizes
 pub mod Putting
 pub mod Forms
 pub mod Cuts
+pub mod Judged
 pub mod Shortest
 pub mod Fronts
 pub mod BothWays
@@ -20,3 +22,4 @@ pub mod Theorem
 pub mod Adds
 pub mod Writes
 pub mod Lays
+pub mod Steps

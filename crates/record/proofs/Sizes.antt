@@ -1,21 +1,16 @@
 -- How many bytes numbers take, and what writing one has after a turn. Assumes nothing.
 use Prim.Native.Nat.{ℕ, zero, suc, ◌+◌, ◌*◌, ◌/◌, ◌%◌, ◌^◌, ◌≤◌, ◌<◌}
 use mathlib.Core.Path.{◌≡◌, refl, sym, ap, ◌∙◌}
-use mathlib.Core.Bool.{Bool, true, false, cond}
 use mathlib.Core.List.{List, [], ◌∷◌, ◌++◌, append_assoc, append-nil, flat_map}
 use native.Mathlib.Numerals.{add-one}
 use native.Mathlib.Omega.{arith}
+use mir.Val.{bool_byte}
 use lib.ListN.{length, get_or, take, drop, length-append, take-append-drop}
 use lib.Seq.{take-suc}
 use lib.Dec.{leb, ltb}
 use borrow.Author.Tests.{lt-ltb, le-ltb, lt-leb, leb-true, leb-false}
 use Rattle.message.proofs.Tests.{cases}
 use Rattle.record.specs.Numbers.{groups, bytes_of, bytes_of_run}
-
--- what counts a test is 0 or 1
-pub one_or_none : (n : ℕ) (b : Bool) → n ≡ cond b 1 0 → n ≤ 1
-one_or_none n true e = omega (arith, e)
-one_or_none n false e = omega (arith, e)
 
 -- the bytes of a number by its size
 pub groups-end : (k n : ℕ) → n < 128 → groups k n ≡ n ∷ []
@@ -30,7 +25,7 @@ groups_more k n h = rw (le-ltb n 128 h)
 -- a number has a byte, and one more for each seven bits behind the first
 pub size_of :
     (n : ℕ) → n < 2 ^ 32
-    → 1 + cond (leb 128 n) 1 0 + cond (leb 16384 n) 1 0 + cond (leb 2097152 n) 1 0 + cond (leb 268435456 n) 1 0
+    → 1 + bool_byte (leb 128 n) + bool_byte (leb 16384 n) + bool_byte (leb 2097152 n) + bool_byte (leb 268435456 n)
     ≡ length (bytes_of n)
 unfolding bytes_of
 size_of n h =

@@ -15,7 +15,7 @@ use Rattle.message.proofs.Tests.{cases}
 use Rattle.record.specs.Faults.{unfinished, missing}
 use Rattle.record.specs.Numbers.{groups, bytes_of, bytes_of_run, led, form_of, number_of}
 use Rattle.record.specs.Runs.{judged, cut}
-use Rattle.record.specs.declared.numbers.Form.{Form}
+use Rattle.record.specs.Numbers.{Form}
 use Rattle.record.specs.MailedHome.{Dwords, entries, before, numbers_before}
 use Rattle.record.proofs.Shortest.{number_form}
 use Rattle.record.proofs.Cuts.{judged_place, by_messages, cut_nil, cut-whole, cut-torn}

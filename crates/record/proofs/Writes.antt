@@ -1,18 +1,25 @@
 -- Going through a run message by message, and what writing it answers. Assumes nothing.
-use Prim.Native.Nat.{ℕ, ◌+◌, ◌*◌, ◌≤◌, ◌<◌}
-use mathlib.Core.Path.{◌≡◌, sym, ap, ◌∙◌}
+use Prim.Native.Nat.{ℕ, ◌+◌, ◌-◌, ◌*◌, ◌≤◌, ◌<◌}
+use mathlib.Core.Path.{◌≡◌, refl, sym, ap, ◌∙◌}
 use mathlib.Core.List.{List, [], ◌++◌}
 use native.Mathlib.Omega.{arith}
 use lib.ListN.{length, take, drop, length-append, length-drop, drop_of_length-le}
 use lib.Seq.{take-add, drop-drop, take-length, length-take-le}
 use borrow.Author.Tests.{eq-eqb, ne_eqb, lt-ltb, le-ltb}
+use Rattle.std.specs.Prelude.{Err}
+use Rattle.record.specs.Faults.{figure}
 use Rattle.record.specs.Numbers.{bytes_of_run}
-use Rattle.record.specs.Runs.{judged, behind, cut}
+use Rattle.record.specs.declared.fault.Fault.{Fault}
+use Rattle.record.specs.declared.writing.WriteError.TheVariants.{BadRecord, ShortRoom}
+use Rattle.record.specs.Runs.{judged, wrong, whole, behind, cut}
 use Rattle.record.specs.Calls.{at_front, write_number, write_answer, write_leaves}
 use Rattle.record.specs.Private.{PutTo}
-use Rattle.record.specs.declared.writing.Written.{Written}
+use Rattle.record.specs.Calls.{Written}
+use Rattle.record.proofs.Figures.{figure-not-0}
 use Rattle.record.proofs.Sizes.{bytes-append, run-bytes, front_bytes}
-use Rattle.record.proofs.Cuts.{judged_place, cut_nil, cut-whole, cut-torn, cut_all}
+use Rattle.message.proofs.Slices.{to_end}
+use Rattle.record.proofs.Judged.{whole_sizes}
+use Rattle.record.proofs.Cuts.{cut_nil, cut-whole, cut-torn, cut_all}
 use Rattle.record.proofs.Fronts.{behind-none, behind_both}
 
 -- the dwords in front of a place are whole messages, and the cut goes on there
@@ -56,13 +63,31 @@ module _ (run : List ℕ) (at : ℕ) (g : Gone run at) where
         ∙ (behind_both at n (cut (drop n (drop at run)))
         ∙ ap (λ (r : List ℕ). behind (at + n) (cut r)) (drop-drop n at run)))
 
--- how many dwords the message at a place takes
-pub message-size :
-    (run : List ℕ) (at : ℕ) → at ≤ length run → (judged (drop at run)).fault ≡ 0
-    → let n = (judged (drop at run)).place in (3 ≤ n) × (at + n ≤ length run) × (n ≤ 258)
-message-size run at l h =
-    let p = judged_place (drop at run) h in
-    omega (arith, length-drop at run)
+-- the message that was judged at a place, from the part of the run that starts there
+module _ (run : List ℕ) (at : ℕ) where
+  abbrev part : List ℕ
+  part = take (length run - at) (drop at run)
+
+  -- a whole one of n dwords
+  module _ (n : ℕ) (e : whole n ≡ judged part) where
+    here : whole n ≡ judged (drop at run)
+    here = e ∙ ap (λ (r : List ℕ). judged r) (to_end at run)
+
+    pub step_sizes : at ≤ length run → (3 ≤ n) × (at + n ≤ length run) × (n ≤ 258)
+    step_sizes l = let p = whole_sizes (drop at run) n here in omega (arith, p, length-drop at run)
+
+    pub step_gone : Gone run at → Gone run (at + n)
+    step_gone g = rw (ap (λ j. j.place) here) (gone_more run at g (sym (ap (λ j. j.fault) here)))
+
+  -- one that is not
+  pub step_torn :
+      (f : Fault) (p : ℕ) → wrong (figure f) p ≡ judged part → Gone run at → at < length run
+      → ((cut run).fault ≡ figure f) × ((cut run).dwords ≡ at)
+  step_torn f p e g l =
+      let here : figure f ≡ (judged (drop at run)).fault =
+      ap (λ j. j.fault) (e ∙ ap (λ (r : List ℕ). judged r) (to_end at run)) in
+      let t = gone_torn run at g l (λ z. figure-not-0 f (here ∙ z)) in
+      (t.0 ∙ sym here, t.1)
 
 -- the bytes of n dwords more
 pub bytes_next :
@@ -94,18 +119,35 @@ all-taken run n f e = ap (λ k. take k run) (e ∙ cut_all run f) ∙ take-lengt
 -- ---- written so far
 
 -- the bytes of the dwords in front of a place, where the messages are whole
-pub put_so_far :
-    (run out out₀ : List ℕ) (at filled what : ℕ) → Gone run at → filled ≡ length (bytes_of_run (take at run))
-    → out ≡ bytes_of_run (take at run) ++ drop filled out₀
-    → ((cut run).fault ≡ 0 → length (bytes_of_run run) ≤ length out₀ → at ≡ length run)
-    → PutTo (record { fault = what; dwords = at; size = filled }) out out₀ run
-put_so_far run out out₀ at filled what g n o all =
-    record {
-      whole = gone_within run at g;
-      size = n;
-      front = o ∙ ap (λ k. bytes_of_run (take at run) ++ drop k out₀) n;
-      all = all;
-    }
+module _ (run out out₀ : List ℕ) (at filled : ℕ) (g : Gone run at) (n : filled ≡ length (bytes_of_run (take at run))) where
+  module _ (o : out ≡ bytes_of_run (take at run) ++ drop filled out₀) where
+    so_far : out ≡ at_front (bytes_of_run (take at run)) out₀
+    so_far = o ∙ ap (λ k. bytes_of_run (take at run) ++ drop k out₀) n
+
+    -- .. behind which a message is not whole
+    pub put_torn :
+        (f : Fault) → figure f ≡ (cut run).fault → PutTo (Err (BadRecord f at filled)) out out₀ run
+    put_torn f e =
+        record {
+          dwords = at;
+          whole = gone_within run at g;
+          size = n;
+          front = so_far;
+          bad = λ z. (e, refl);
+          all = λ z room. absurd (figure-not-0 f (e ∙ z));
+        }
+
+    -- .. or has no room
+    pub put_full : (length (bytes_of_run run) ≤ length out₀ → ⊥) → PutTo (Err (ShortRoom filled)) out out₀ run
+    put_full h =
+        record {
+          dwords = at;
+          whole = gone_within run at g;
+          size = n;
+          front = so_far;
+          bad = λ z. absurd (omega arith);
+          all = λ z room. absurd (h room);
+        }
 
 -- ---- the call
 

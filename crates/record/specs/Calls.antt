@@ -1,11 +1,59 @@
 -- What the calls of a record answer and leave (document 02, T-10), refused inputs as accepted ones.
-use Rattle.std.specs.Prelude.{ℕ, ◌+◌, ◌*◌, ◌-◌, ◌^◌, min, not, cond, List, ◌∷◌, ◌++◌, length, take, drop, eqb, ltb}
+use Rattle.std.specs.Prelude.{ℕ, ◌+◌, ◌*◌, ◌-◌, ◌^◌, min, not, cond, List, ◌∷◌, ◌++◌, length, take, drop, eqb, ltb, Result, Ok, Err}
+use Rattle.record.specs.Faults.{figure}
 use Rattle.record.specs.Numbers.{bytes_of_run}
 use Rattle.record.specs.Runs.{judged, cut}
 use Rattle.record.specs.Files.{whole_of, took_of, messages_of, intact, bad_of, fault_of}
-use Rattle.record.specs.declared.reading.ReadBack.{ReadBack}
-use Rattle.record.specs.declared.writing.Written.{Written}
-use Rattle.record.specs.declared.adding.Added.{Added}
+use Rattle.record.specs.declared.adding.AddError as adding
+use Rattle.record.specs.declared.adding.AddError.TheVariants as adding_by
+use Rattle.record.specs.declared.reading.Laid.{Laid}
+use Rattle.record.specs.declared.reading.ReadError as reading
+use Rattle.record.specs.declared.reading.ReadError.TheVariants as reading_by
+use Rattle.record.specs.declared.writing.WriteError as writing
+use Rattle.record.specs.declared.writing.WriteError.TheVariants as writing_by
+
+-- ---- what the calls answer, as C has it: 0, 29 or 30; at 29 what is wrong, and where
+
+-- .. a write: the place in the run of that message's direction; the bytes that were written
+pub record Written : Type 0 where
+  pub code : ℕ
+  pub fault : ℕ
+  pub at : ℕ
+  pub written : ℕ
+
+-- .. a read: the byte where the bad number starts; the dwords that were laid, and the bytes of the file that these
+-- messages took
+pub record ReadBack : Type 0 where
+  pub code : ℕ
+  pub fault : ℕ
+  pub at : ℕ
+  pub written : ℕ
+  pub took : ℕ
+
+-- .. an add: the place for the next message
+pub record Added : Type 0 where
+  pub code : ℕ
+  pub fault : ℕ
+  pub place : ℕ
+
+-- .. as the code answers it
+abbrev pub of_written : Result ℕ writing.WriteError → Written
+of_written (Ok bytes) = record { code = 0; fault = 0; at = 0; written = bytes }
+of_written (Err (writing_by.BadRecord f place bytes)) = record { code = 29; fault = figure f; at = place; written = bytes }
+of_written (Err (writing_by.ShortRoom bytes)) = record { code = 30; fault = 0; at = 0; written = bytes }
+
+abbrev pub of_read : Result Laid reading.ReadError → ReadBack
+of_read (Ok laid) = record { code = 0; fault = 0; at = 0; written = laid.written; took = laid.took }
+of_read (Err (reading_by.BadRecord f byte laid)) =
+    record { code = 29; fault = figure f; at = byte; written = laid.written; took = laid.took }
+of_read (Err (reading_by.ShortRoom laid)) = record { code = 30; fault = 0; at = 0; written = laid.written; took = laid.took }
+
+abbrev pub of_added : ℕ → Result ℕ adding.AddError → Added
+of_added place (Ok next) = record { code = 0; fault = 0; place = next }
+of_added place (Err (adding_by.BadRecord f)) = record { code = 29; fault = figure f; place = place }
+of_added place (Err adding_by.ShortRoom) = record { code = 30; fault = 0; place = place }
+
+-- ---- what they lay
 
 -- xs over the front of an output that has room for them, which keeps its rest
 abbrev pub at_front : List ℕ → List ℕ → List ℕ

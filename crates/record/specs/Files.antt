@@ -1,8 +1,7 @@
 -- A record file (document 02, T-10): the numbers of its bytes, and what its whole messages are.
 use Rattle.std.specs.Prelude.{ℕ, zero, suc, ◌+◌, Bool, cond, List, [], ◌∷◌, map, length, take, drop, eqb, ltb}
-use Rattle.record.specs.Numbers.{number_of}
+use Rattle.record.specs.Numbers.{Form, number_of}
 use Rattle.record.specs.Runs.{cut}
-use Rattle.record.specs.declared.numbers.Form.{Form}
 
 -- at most k numbers of a file, one behind the other, up to the first bad form or the end
 unfoldable pub forms_from : ℕ → List ℕ → List Form

@@ -7,8 +7,7 @@ use Rattle.record.specs.Numbers.{bytes_of, bytes_of_run, number_of, good}
 use Rattle.record.specs.Runs.{judged, cut}
 use Rattle.record.specs.Files.{whole_of, took_of, messages_of, intact, bad_of, fault_of}
 use Rattle.record.specs.Calls.{at_front, write_number, write_answer, write_leaves, read_number, read_answer, read_leaves}
-use Rattle.record.specs.Calls.{entry_of, add_number, add_answer, add_leaves}
-use Rattle.record.specs.declared.reading.ReadBack.{ReadBack}
+use Rattle.record.specs.Calls.{ReadBack, entry_of, add_number, add_answer, add_leaves}
 
 -- what is lent as bytes or as dwords holds such numbers
 abbrev pub Bytes : List ℕ → Type 0

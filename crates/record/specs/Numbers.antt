@@ -1,8 +1,9 @@
 -- The numbers of a record file (document 02, T-10): how each is written in bytes, and which number bytes start with.
-use Rattle.std.specs.Prelude.{ℕ, zero, suc, ◌+◌, ◌*◌, ◌/◌, ◌%◌, cond, eqb, ltb}
+use Rattle.std.specs.Prelude.{ℕ, zero, suc, ◌+◌, ◌*◌, ◌/◌, ◌%◌, Result, Ok, Err, cond, eqb, ltb}
 use mathlib.Core.List.{List, [], ◌∷◌, flat_map}
-use Rattle.record.specs.Faults.{unfinished, missing, too_long, above}
-use Rattle.record.specs.declared.numbers.Form.{Form}
+use Rattle.record.specs.Faults.{unfinished, missing, too_long, above, figure}
+use Rattle.record.specs.declared.fault.Fault.{Fault}
+use Rattle.record.specs.declared.numbers.Form as code
 
 -- 'Every number is cut into groups of seven bits, lowest group first, the top bit of each byte set when another follows,
 -- shortest form only': the bytes of a number that has at most k groups behind its first
@@ -18,12 +19,22 @@ bytes_of n = groups 4 n
 abbrev pub bytes_of_run : List ℕ → List ℕ
 bytes_of_run run = flat_map bytes_of run
 
--- what bytes start with: a number with the bytes that it takes, or what is wrong there
+-- what bytes start with: what is wrong there, or 0 with a number and the bytes that it takes
+pub record Form : Type 0 where
+  pub fault : ℕ
+  pub value : ℕ
+  pub size : ℕ
+
 abbrev pub good : ℕ → ℕ → Form
 good n bytes = record { fault = 0; value = n; size = bytes }
 
 abbrev pub faulty : ℕ → Form
 faulty what = record { fault = what; value = 0; size = 0 }
+
+-- .. as the code answers it
+abbrev pub of_form : Result code.Form Fault → Form
+of_form (Ok n) = good n.value n.size
+of_form (Err f) = faulty (figure f)
 
 -- a group that another follows, in front of the form of the others: where those are 0 they should not be there
 unfoldable pub led : ℕ → Form → Form

@@ -1,20 +1,18 @@
 -- How the code goes through a file: a message at a time, number by number. No public contract has these; that they come
 -- to what Files.antt says is proved (proofs/Found.antt).
-use Rattle.std.specs.Prelude.{ℕ, zero, suc, ◌+◌, ◌-◌, ◌*◌, ◌≤◌, ◌≡◌, not, ◌&&◌, cond, List, [], ◌∷◌, ◌++◌, length, take, drop, replicate, eqb, ltb}
+use Rattle.std.specs.Prelude.{ℕ, zero, suc, ◌+◌, ◌-◌, ◌*◌, ◌≤◌, ◌≡◌, not, ◌&&◌, cond, List, [], ◌∷◌, ◌++◌, length, get_or, take, drop, replicate, eqb, ltb}
+use Rattle.std.specs.Prelude.{Result, Ok, Err}
 use Rattle.message.specs.Header.{total_length}
-use Rattle.record.specs.Faults.{too_long, bad_direction, bad_length, bad_header}
-use Rattle.record.specs.Numbers.{number_of, good, faulty, bytes_of_run}
-use Rattle.record.specs.Runs.{is_length, judged, cut}
+use Rattle.record.specs.Faults.{too_long, bad_direction, bad_length, bad_header, figure}
+use Rattle.record.specs.Numbers.{Form, number_of, good, faulty, bytes_of_run}
+use Rattle.record.specs.Runs.{Judged, is_length, judged, cut}
 use Rattle.record.specs.Files.{whole_of, run_of}
-use Rattle.record.specs.Calls.{at_front, read_answer}
-use Rattle.record.specs.declared.numbers.Form.{Form}
-use Rattle.record.specs.declared.finding.Found.{Found}
-use Rattle.record.specs.declared.finding.Body.{Body}
-use Rattle.record.specs.declared.messages.Judged.{Judged}
-use Rattle.record.specs.declared.reading.ReadBack.{ReadBack}
-use Rattle.record.specs.declared.writing.Measured.{Measured}
-use Rattle.record.specs.declared.writing.Put.{Put}
-use Rattle.record.specs.declared.writing.Written.{Written}
+use Rattle.record.specs.Calls.{ReadBack, at_front, read_answer, of_written}
+use Rattle.record.specs.declared.finding.Found as code
+use Rattle.record.specs.declared.finding.Torn.{Torn}
+use Rattle.record.specs.declared.messages.Head.{Head}
+use Rattle.record.specs.declared.messages.Wrong.{Wrong}
+use Rattle.record.specs.declared.writing.WriteError.{WriteError}
 
 -- a number that ends with this group, behind others that hold value: their weight is what 1 counts here
 unfoldable pub ended : ℕ → ℕ → ℕ → ℕ → Form
@@ -48,12 +46,32 @@ numbers_of (suc k) f =
     let n = number_of f in
     cond (eqb n.fault 0) (onto (n.value ∷ []) n.size (numbers_of k (drop n.size f))) (stop n.fault)
 
+-- how far some bytes are numbers, and what is wrong behind them, or 0 where there are enough
+pub record Body : Type 0 where
+  pub fault : ℕ
+  pub size : ℕ
+
 -- what is wrong first in a message, at this byte of it; or its dwords, and the bytes that they took
+pub record Found : Type 0 where
+  pub fault : ℕ
+  pub bad : ℕ
+  pub dwords : ℕ
+  pub size : ℕ
+
 abbrev pub torn : ℕ → ℕ → Found
 torn what at = record { fault = what; bad = at; dwords = 0; size = 0 }
 
 abbrev pub found : ℕ → ℕ → Found
 found dwords bytes = record { fault = 0; bad = 0; dwords = dwords; size = bytes }
+
+-- .. both as the code answers them
+abbrev pub of_body : Result ℕ Torn → Body
+of_body (Ok bytes) = record { fault = 0; size = bytes }
+of_body (Err t) = record { fault = figure t.fault; size = t.at }
+
+abbrev pub of_found : Result code.Found Torn → Found
+of_found (Ok m) = found m.dwords m.size
+of_found (Err t) = torn (figure t.fault) t.at
 
 -- the same, so many bytes later
 unfoldable pub later : ℕ → Found → Found
@@ -97,6 +115,10 @@ length_in f = (number_of f).value ∷ dwords_in (number_of f).value (drop (numbe
 unfoldable pub message_in : List ℕ → List ℕ
 message_in f = (number_of f).value ∷ length_in (drop (number_of f).size f)
 
+-- the first numbers of a run
+abbrev pub first_head : List ℕ → Head
+first_head run = record { direction = get_or run 0 0; len = get_or run 1 0; header = get_or run 2 0 }
+
 -- an empty copy
 unfoldable pub blank : List ℕ
 blank = replicate 258 0
@@ -131,22 +153,19 @@ pub record LaidTo (r : ReadBack) (after before f : List ℕ) : Type 0 where
   pub front : after ≡ at_front (take r.written (run_of f)) before
   pub answer : whole_of f ≤ length before → r ≡ read_answer f (length before)
 
--- judged and measured
-pub record MeasuredTo (r : Measured) (run : List ℕ) : Type 0 where
-  pub fault : r.fault ≡ (cut run).fault
-  pub dwords : r.dwords ≡ (cut run).dwords
-  pub size : r.size ≡ length (bytes_of_run (take r.dwords run))
+-- judged and measured: the bytes of a run that is whole to its end, or what is wrong first, and where that message is
+abbrev pub MeasuredTo : Result ℕ Wrong → List ℕ → Type 0
+MeasuredTo (Ok size) run = ((cut run).fault ≡ 0) × (size ≡ length (bytes_of_run run))
+MeasuredTo (Err w) run = ((cut run).fault ≡ figure w.fault) × ((cut run).dwords ≡ w.place)
 
--- written: always the front of the run's whole messages; all of them where they are the run, and fit
-pub record PutTo (r : Put) (after before run : List ℕ) : Type 0 where
-  pub whole : r.dwords ≤ (cut run).dwords
-  pub size : r.size ≡ length (bytes_of_run (take r.dwords run))
-  pub front : after ≡ at_front (bytes_of_run (take r.dwords run)) before
-  pub all : (cut run).fault ≡ 0 → length (bytes_of_run run) ≤ length before → r.dwords ≡ length run
-
--- what is answered where the second pass of a write did not get to the end: what stopped it, and how much was written
-unfoldable pub stopped_by : Put → Written
-stopped_by p =
-    cond (eqb p.fault 0)
-    (record { code = 30; fault = 0; at = 0; written = p.size })
-    (record { code = 29; fault = p.fault; at = p.dwords; written = p.size })
+-- written: always the front of the run's whole messages; all of them where they are the run, and fit. Where 29 stops it,
+-- it says what is wrong, and how far it got
+pub record PutTo (r : Result ℕ WriteError) (after before run : List ℕ) : Type 0 where
+  pub dwords : ℕ
+  pub whole : dwords ≤ (cut run).dwords
+  pub size : (of_written r).written ≡ length (bytes_of_run (take dwords run))
+  pub front : after ≡ at_front (bytes_of_run (take dwords run)) before
+  pub bad : (of_written r).code ≡ 29 → ((of_written r).fault ≡ (cut run).fault) × ((of_written r).at ≡ dwords)
+  pub all :
+      (cut run).fault ≡ 0 → length (bytes_of_run run) ≤ length before
+      → (dwords ≡ length run) × (r ≡ Ok (length (bytes_of_run run)))

@@ -1,19 +1,42 @@
 -- A record in memory (document 02, T-10): a run of dwords, cut into its messages.
-use Rattle.std.specs.Prelude.{ℕ, zero, suc, ◌+◌, Bool, not, ◌&&◌, cond, List, [], ◌∷◌, length, get_or, drop, eqb, leb, ltb}
+use Rattle.std.specs.Prelude.{ℕ, zero, suc, ◌+◌, ◌≡◌, ◌≤◌, ◌<◌, Bool, not, ◌&&◌, cond, List, [], ◌∷◌, length, get_or, drop, eqb, leb, ltb}
+use Rattle.std.specs.Prelude.{Result, Ok, Err, MatchResult}
 use Rattle.message.specs.Header.{total_length}
-use Rattle.record.specs.Faults.{missing, bad_direction, bad_length, bad_header}
-use Rattle.record.specs.declared.messages.Judged.{Judged}
+use Rattle.record.specs.Faults.{missing, bad_direction, bad_length, bad_header, figure}
+use Rattle.record.specs.declared.direction.Direction.{Direction}
+use Rattle.record.specs.declared.direction.Direction.TheVariants.{Sent, Received}
+use Rattle.record.specs.declared.fault.Fault.{Fault}
+use Rattle.record.specs.declared.fault.Fault.TheVariants.{BadDirection}
+use Rattle.record.specs.declared.messages.Wrong.{Wrong}
+
+-- '0 for sent or 1 for received'
+abbrev pub way : Direction → ℕ
+way Sent = 0
+way Received = 1
+
+-- the direction that a number stands for, or what is wrong with the number
+abbrev pub Directs : ℕ → Result Direction Fault → Type 0
+Directs n r = MatchResult r (λ d. (way d ≡ n) × (n ≤ 1)) (λ f. (f ≡ BadDirection) × (1 < n))
 
 -- 'L runs from 1 to 256'
 unfoldable pub is_length : ℕ → Bool
 is_length l = leb 1 l && leb l 256
 
 -- the place of the first number that is wrong in a message, and what is; of a whole one 0, and how many dwords it takes
+pub record Judged : Type 0 where
+  pub fault : ℕ
+  pub place : ℕ
+
 abbrev pub wrong : ℕ → ℕ → Judged
 wrong what at = record { fault = what; place = at }
 
 abbrev pub whole : ℕ → Judged
 whole dwords = record { fault = 0; place = dwords }
+
+-- .. as the code answers it
+abbrev pub of_judged : Result ℕ Wrong → Judged
+of_judged (Ok dwords) = whole dwords
+of_judged (Err w) = wrong (figure w.fault) w.place
 
 -- 'per message, 0 for sent or 1 for received, then L, then the L dwords': a message of which `count` dwords are there,
 -- by its direction, its L and its header. Nothing else is asked: 'malformed messages may be kept'

@@ -5,21 +5,20 @@
 ghost use Rattle.record.specs.MailedHome.{MailedHome};
 
 mod adding;
+mod direction;
+mod fault;
 mod finding;
 mod messages;
 mod numbers;
 mod reading;
-mod refusal;
 mod writing;
 
-pub use adding::{Added, add};
-pub use messages::{MESSAGE_BYTES_MAX, RECEIVED, SENT};
-pub use reading::{ReadBack, read};
-pub use refusal::{
-    BAD_DIRECTION, BAD_HEADER, BAD_LENGTH, BAD_RECORD, MISSING, SHORT_ROOM, TOO_LONG, TOO_WIDE,
-    UNFINISHED,
-};
-pub use writing::{Written, write, write_bound};
+pub use adding::{AddError, add};
+pub use direction::Direction;
+pub use fault::Fault;
+pub use messages::MESSAGE_BYTES_MAX;
+pub use reading::{Laid, ReadError, read};
+pub use writing::{WriteError, write, write_bound};
 
 // Does nothing: it is here for its contract, what is proved of records written, read, cut and read in pieces.
 pub fn mailed_home()

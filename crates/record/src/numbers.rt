@@ -1,97 +1,77 @@
 // The numbers of a record file: groups of seven bits, lowest first, each byte but the last with its top bit set, and
 // never more bytes than are needed.
 ghost use Rattle.std.specs.Prelude.{◌≡◌, cond, ◌+◌, ◌*◌, ◌^◌, ◌≤◌, ◌<◌, length, drop};
-ghost use Rattle.record.specs.Numbers.{bytes_of, bytes_of_run, number_of, faulty, good};
+ghost use Rattle.record.specs.Numbers.{bytes_of, bytes_of_run, number_of, of_form};
 ghost use Rattle.record.specs.Calls.{at_front};
 ghost use Rattle.record.specs.Private.{ended};
 
-use crate::refusal::{MISSING, TOO_LONG, TOO_WIDE, UNFINISHED};
+use crate::fault::Fault;
 
 // 'the top bit of each byte set when another follows', and of the last byte not
 const FOLLOWED: u32 = 128;
 
 const LAST: u32 = 0;
 
-// What bytes start with: what is wrong there, or 0 with a number and the bytes that it takes.
+// A number that bytes start with, and how many of them it takes.
 #[derive(Clone, Copy)]
 pub struct Form {
-    pub fault: u32,
     pub value: u32,
     pub size: usize,
 }
 
-fn no_number(fault: u32) -> Form
-    ensures { result ≡ faulty fault }
-{
-    Form {
-        fault: fault,
-        value: 0,
-        size: 0,
-    }
-}
-
 // A number that ends with this group, behind `size` others that hold `value`: a last group of 0 should not be there.
-fn ended(value: u32, weight: u32, size: usize, group: u8) -> Form
+fn ended(value: u32, weight: u32, size: usize, group: u8) -> Result<Form, Fault>
     requires group_bound { value + weight * group < 2 ^ 32 }
     requires size_bound { size < 5 }
-    ensures { result ≡ ended value weight size group }
+    ensures { of_form result ≡ ended value weight size group }
 {
     if (group == 0) & (0 < size) {
-        return no_number(TOO_LONG);
+        return Err(Fault::TooLong);
     }
-    Form {
-        fault: 0,
-        value: value + weight * group as u32,
+    Ok(Form {
+        value: value + weight * u32::from(group),
         size: size + 1,
-    }
+    })
 }
 
 // The number that bytes start with. Each byte is read once.
-pub(crate) fn number(bytes: &[u8]) -> Form
-    ensures { result ≡ number_of bytes.now }
+pub(crate) fn number(bytes: &[u8]) -> Result<Form, Fault>
+    ensures { of_form result ≡ number_of bytes.now }
 {
-    if bytes.len() == 0 {
-        return no_number(MISSING);
+    if bytes.is_empty() {
+        return Err(Fault::Missing);
     }
     let mut value: u32 = 0;
     let mut weight: u32 = 1;
-    let mut size: usize = 0;
-    while size < 4 {
+    for size in 0..4 {
         if bytes.len() <= size {
-            return no_number(UNFINISHED);
+            return Err(Fault::Unfinished);
         }
         let group = bytes[size];
         if group < 128 {
             return ended(value, weight, size, group);
         }
-        value = value + weight * (group as u32 - 128);
-        weight = weight * 128;
-        size += 1;
+        value += weight * (u32::from(group) - 128);
+        weight *= 128;
     }
     if bytes.len() <= 4 {
-        return no_number(UNFINISHED);
+        return Err(Fault::Unfinished);
     }
     let group = bytes[4];
     if 16 <= group {
-        return no_number(TOO_WIDE);
+        return Err(Fault::TooWide);
     }
     ended(value, weight, 4, group)
-}
-
-fn one_if(holds: bool) -> usize
-    ensures { result ≡ cond holds 1 0 }
-{
-    if holds { 1 } else { 0 }
 }
 
 // How many bytes a number takes.
 fn number_size(value: u32) -> usize
     ensures { result ≡ length (bytes_of value) }
 {
-    1 + one_if(0x80 <= value)
-        + one_if(0x4000 <= value)
-        + one_if(0x20_0000 <= value)
-        + one_if(0x1000_0000 <= value)
+    1 + usize::from(0x80 <= value)
+        + usize::from(0x4000 <= value)
+        + usize::from(0x20_0000 <= value)
+        + usize::from(0x1000_0000 <= value)
 }
 
 // How many bytes some dwords take.
@@ -100,10 +80,8 @@ pub(crate) fn run_size(run: &[u32]) -> usize
     ensures { result ≡ length (bytes_of_run run.now) }
 {
     let mut size = 0;
-    let mut i = 0;
-    while i < run.len() {
-        size += number_size(run[i]);
-        i += 1;
+    for dword in run {
+        size += number_size(*dword);
     }
     size
 }
@@ -131,10 +109,8 @@ pub(crate) fn put_run(run: &[u32], out: &mut [u8]) -> usize
         × (out.new ≡ at_front (bytes_of_run run.now) out.old) }
 {
     let mut at = 0;
-    let mut i = 0;
-    while i < run.len() {
-        at += put_number(run[i], &mut out[at..]);
-        i += 1;
+    for dword in run {
+        at += put_number(*dword, &mut out[at..]);
     }
     at
 }

@@ -19,7 +19,7 @@ use Rattle.firmware.specs.Css
 use Rattle.firmware.specs.Cpd
 use Rattle.firmware.specs.Inside.{huc_blob, huc_name, huc_number, manifest_name, manifest_number, part_named}
 use Rattle.firmware.specs.Version.{reading}
-use Rattle.firmware.specs.declared.bytes.Located.{Located}
+use Rattle.firmware.specs.Bytes.{Location}
 use Rattle.firmware.proofs.Count.{count_some, count-two, count_zero, two-count}
 use Rattle.firmware.proofs.Search.{all-each, all_fails, first_met, none_met}
 use Rattle.refusals.specs.Order.{Row, row}
@@ -226,7 +226,7 @@ huc-number b = seek_then b huc_name _ (image_rows (huc_blob b)) (image-number (h
 
 -- ---- what a refusal gives
 
-pub location_refused : (number : ℕ) (l : Located) → l ≡ located_at number false nowhere → LocationRefused l
+pub location_refused : (number : ℕ) (l : Location) → l ≡ located_at number false nowhere → LocationRefused l
 location_refused number l e = rw e (record { at-start = refl; empty = refl; not_truncated = refl })
 
 pub reading-refused :

@@ -15,9 +15,9 @@ use Rattle.record.specs.Runs.{cut, is_length, judged, judged_by}
 use Rattle.record.specs.Files.{intact, whole_of}
 use Rattle.record.specs.Calls.{add_answer, add_leaves, add_number, entry_of, read_answer, read_leaves, read_number}
 use Rattle.record.specs.Calls.{write_answer, write_leaves, write_number}
-use Rattle.record.specs.declared.adding.Added.{Added}
-use Rattle.record.specs.declared.writing.Written.{Written}
-use Rattle.record.specs.declared.reading.ReadBack.{ReadBack}
+use Rattle.record.specs.Calls.{Added}
+use Rattle.record.specs.Calls.{Written}
+use Rattle.record.specs.Calls.{ReadBack}
 use Rattle.record.proofs.Cuts.{Whole, cut_nil, cut-torn, cut-whole, judged-whole, split_run, whole_by}
 use Rattle.record.proofs.BothWays.{messages-length}
 use Rattle.ring.proofs.Chains.{true_false}

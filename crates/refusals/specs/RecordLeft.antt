@@ -2,9 +2,9 @@
 -- afterwards.
 use Rattle.std.specs.Prelude.{ℕ, ◌≡◌, List, ◌++◌, length, drop}
 use Rattle.record.specs.Files.{messages_of}
-use Rattle.record.specs.declared.adding.Added.{Added}
-use Rattle.record.specs.declared.writing.Written.{Written}
-use Rattle.record.specs.declared.reading.ReadBack.{ReadBack}
+use Rattle.record.specs.Calls.{Added}
+use Rattle.record.specs.Calls.{Written}
+use Rattle.record.specs.Calls.{ReadBack}
 
 -- a refused add (ours): the run stays, and the place for the next message is the one given
 pub record AddRefused (run : List ℕ) (place : ℕ) (answer : Added) (after : List ℕ) : Type 0 where

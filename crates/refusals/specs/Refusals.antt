@@ -12,10 +12,9 @@ use Rattle.firmware.specs.Css
 use Rattle.firmware.specs.Cpd
 use Rattle.firmware.specs.Inside
 use Rattle.firmware.specs.Version.{css_reading, huc_reading, manifest_reading}
-use Rattle.firmware.specs.Figures.{image_figures, directory_figures, entry_figures, manifest_figures, huc_figures}
-use Rattle.firmware.specs.declared.bytes.Located.{Located}
+use Rattle.firmware.specs.Figures.{Measures, image_figures, directory_figures, entry_figures, manifest_figures, huc_figures}
+use Rattle.firmware.specs.Bytes.{Location}
 use Rattle.firmware.specs.declared.css.Component.{Component}
-use Rattle.firmware.specs.declared.figures.Figures.{Figures}
 use Rattle.requests.specs.Calls.{Wall, fresh, reply}
 use Rattle.requests.specs.Opening.{send_for, sending}
 use Rattle.refusals.specs.Order.{Row, Answered, AllPass}
@@ -142,13 +141,13 @@ tests (reply_dwords_call w dwords) = reply_dwords_tests w dwords
 -- ---- what a refused call leaves and gives
 
 -- 'a refused location gives the empty part at the start of the lent blob (the outer one, inside a directory)'
-pub record LocationRefused (l : Located) : Type 0 where
+pub record LocationRefused (l : Location) : Type 0 where
   pub at-start : l.start ≡ 0
   pub empty : l.len ≡ 0
   pub not_truncated : l.truncated ≡ false
 
 -- ours: fewer bytes are there than a refused number asks for, or it asks for none
-abbrev pub FiguresRefused : Figures → Type 0
+abbrev pub FiguresRefused : Measures → Type 0
 FiguresRefused f = (f.needed ≡ 0 → ⊥) → f.there < f.needed
 
 -- Blobs, names and messages are lent to be read only: that they stay is a matter of type.

@@ -5,15 +5,13 @@ ghost use Rattle.std.proofs.Math.Option.{some};
 ghost use Rattle.message.specs.Fields.{field_of, type};
 ghost use Rattle.message.specs.Header.{starts_message};
 ghost use Rattle.message.specs.Packing.{unpack};
-ghost use Rattle.message.specs.Types.{type_of};
 ghost use Rattle.ring.specs.Numbers.{need};
 ghost use Rattle.requests.specs.Calls.{heard_of};
 ghost use Rattle.requests.specs.Plan.{asks_request, asks_reply};
 
+use crate::numbers;
 use crate::record::ROOM_MAX;
-use crate::refusal;
-use message::{Body, Message, Unpacked, dword_at};
-use ring::refusal::BAD_MESSAGE;
+use message::{Message, Type, dword_at};
 
 // What is heard of a message: 0 with its HXG type and its fence, or the number that refuses it.
 #[derive(Clone, Copy)]
@@ -36,31 +34,14 @@ pub struct Ask {
     pub word: u32,
 }
 
-// The HXG type of a body.
-fn type_of(b: Body) -> u32
-    ensures { result ≡ type_of b }
-{
-    match b {
-        Body::Request { data: _, action: _ } => message::TYPE_REQUEST,
-        Body::Event { data: _, action: _ } => message::TYPE_EVENT,
-        Body::FastRequest { data: _, action: _ } => message::TYPE_FAST_REQUEST,
-        Body::Busy { counter: _ } => message::TYPE_BUSY,
-        Body::Retry { reason: _ } => message::TYPE_RETRY,
-        Body::Failure { hint: _, error: _ } => message::TYPE_FAILURE,
-        Body::Success { data: _ } => message::TYPE_SUCCESS,
-    }
-}
-
 // What is heard of a decoded message, of any origin.
 pub fn reply(m: Message) -> Heard
     ensures { result ≡ heard_of (some m) }
 {
-    let fence = m.fence;
-    let b = m.body;
     Heard {
         code: 0,
-        kind: type_of(b),
-        fence,
+        kind: u32::from(m.body.kind()),
+        fence: m.fence,
     }
 }
 
@@ -69,12 +50,12 @@ pub fn received(dwords: &[u32]) -> Heard
     ensures { result ≡ heard_of (unpack dwords.now) }
 {
     match message::unpack(dwords) {
-        Unpacked::Malformed => Heard {
-            code: BAD_MESSAGE,
+        Err(r) => Heard {
+            code: r.number(),
             kind: 0,
             fence: 0,
         },
-        Unpacked::Decoded(m) => reply(m),
+        Ok(m) => reply(m),
     }
 }
 
@@ -98,13 +79,13 @@ fn request_number(len: usize, header: u32, word: u32, room: u32) -> u32
     ensures { result ≡ need (leb room 256) 14 (need (starts_message len header word && eqb (field_of type word) 0) 27 0) }
 {
     if room > ROOM_MAX {
-        return refusal::BAD_FIELD;
+        return numbers::BAD_FIELD;
     }
     if !message::starts_message(len, header, word) {
-        return refusal::NO_REQUEST;
+        return numbers::NO_REQUEST;
     }
-    if message::hxg_type(word) != message::TYPE_REQUEST {
-        return refusal::NO_REQUEST;
+    if message::hxg_type(word) != Type::Request as u32 {
+        return numbers::NO_REQUEST;
     }
     0
 }

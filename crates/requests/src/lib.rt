@@ -6,9 +6,9 @@
 mod asking;
 mod fence;
 mod judging;
+mod numbers;
 mod planning;
 mod record;
-pub mod refusal;
 mod state;
 
 pub use asking::{Ask, Heard, ask_reply, ask_request, received, reply};

@@ -1,6 +1,7 @@
 // What a call does, planned on a table's words: its answer, the one record that is stored, and the last fence from then
 // on. Nothing is written here.
 ghost use Rattle.std.specs.Prelude.{◌≡◌, ◌≤◌, length, take};
+ghost use Rattle.ring.specs.Numbers.{need};
 ghost use Rattle.requests.specs.Calls.{is_reply, counted, record_after, answer_of};
 ghost use Rattle.requests.specs.Words.{records, records_with};
 ghost use Rattle.requests.specs.Plan.{refused_plan, open_plan, reply_plan, plan_of};
@@ -8,10 +9,10 @@ ghost use Rattle.requests.specs.Private.{Marked};
 
 use crate::asking::Ask;
 use crate::judging::{FLAGS, fence_twice, lowest_free, next_fence, place_of, set_aside};
+use crate::numbers;
 use crate::record::{RECORDS_MAX, Record, allowed, record_of};
-use crate::refusal;
 use crate::state::State;
-use ring::need;
+use message::Type;
 
 // What a call answers: a number, then an opening's fence, or a reply's kind with the request's action and count. What a
 // call has no part in is 0, and on a refusal all but the number is.
@@ -61,6 +62,19 @@ pub fn refuse(code: u32, n: usize, last: u16) -> Plan
     }
 }
 
+// 26 where no record is free, else 28 where its replies would not fit.
+fn open_number(free: bool, fits: bool) -> u32
+    ensures { result ≡ need free 26 (need fits 28 0) }
+{
+    if !free {
+        return numbers::TABLE_FULL;
+    }
+    if !fits {
+        return numbers::NO_REPLY_ROOM;
+    }
+    0
+}
+
 // An opening at the lowest free record, or 26, or 28.
 fn plan_open(
     words: &[u64],
@@ -78,11 +92,7 @@ fn plan_open(
     let most = state.n as u32 - 1;
     let free = at < words.len();
     let fits = set_aside(words, rooms) + room as u32 <= most;
-    let code = need(
-        free,
-        refusal::TABLE_FULL,
-        need(fits, refusal::NO_REPLY_ROOM, 0),
-    );
+    let code = open_number(free, fits);
     if code != 0 {
         return refuse(code, words.len(), state.last);
     }
@@ -112,10 +122,10 @@ fn plan_open(
 fn is_reply(kind: u32) -> bool
     ensures { result ≡ is_reply kind }
 {
-    (kind == message::TYPE_BUSY)
-        | (kind == message::TYPE_RETRY)
-        | (kind == message::TYPE_FAILURE)
-        | (kind == message::TYPE_SUCCESS)
+    (kind == Type::Busy as u32)
+        | (kind == Type::Retry as u32)
+        | (kind == Type::Failure as u32)
+        | (kind == Type::Success as u32)
 }
 
 // One time more answered busy, stopping at 65,535.
@@ -129,7 +139,7 @@ fn counted(n: u16) -> u16
 fn answer_at(at: usize, kind: u32, r: Record, last: u16) -> Plan
     ensures { result ≡ record { at = at; stored = record_after kind r; answer = answer_of kind r; was = last; last = last } }
 {
-    if kind == message::TYPE_BUSY {
+    if kind == Type::Busy as u32 {
         let count = counted(r.count);
         return Plan {
             at,
@@ -181,10 +191,10 @@ fn plan_reply(words: &[u64], rooms: &[u16], last: u16, kind: u32, fence: u32) ->
 {
     let at = place_of(fence as u64, words);
     if at == words.len() {
-        return refuse(refusal::NO_REQUEST, at, last);
+        return refuse(numbers::NO_REQUEST, at, last);
     }
     if !is_reply(kind) {
-        return refuse(refusal::NO_REQUEST, words.len(), last);
+        return refuse(numbers::NO_REQUEST, words.len(), last);
     }
     answer_at(at, kind, record_of(words[at], rooms[at]), last)
 }
@@ -201,16 +211,16 @@ pub fn plan_call(
     ensures { result ≡ plan_of (take n (records_with words.now rooms.now)) n state ask }
 {
     if !allowed(n) {
-        return refuse(refusal::BAD_TABLE, n, state.last);
+        return refuse(numbers::BAD_TABLE, n, state.last);
     }
     let mut flags = [0; FLAGS];
     let all = &words[..];
     let table = &all[0..n];
     if fence_twice(table, &mut flags) {
-        return refuse(refusal::BAD_TABLE, n, state.last);
+        return refuse(numbers::BAD_TABLE, n, state.last);
     }
     if !ring::allowed(state.n as usize) {
-        return refuse(ring::refusal::BAD_BUFFER, n, state.last);
+        return refuse(numbers::BAD_BUFFER, n, state.last);
     }
     if ask.code != 0 {
         return refuse(ask.code, n, state.last);

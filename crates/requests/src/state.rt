@@ -5,8 +5,8 @@ ghost use Rattle.requests.specs.Calls.{fresh_number};
 ghost use Rattle.requests.specs.Plan.{state_in, last_kept, freed, fresh_state};
 
 use crate::fence::FIRST_LAST;
+use crate::numbers;
 use crate::record::allowed;
-use crate::refusal;
 
 pub const WALL_WORDS: usize = 2;
 
@@ -47,10 +47,10 @@ fn fresh_number(records: usize, n: usize) -> u32
     ensures { result ≡ fresh_number records n }
 {
     if !allowed(records) {
-        return refusal::BAD_TABLE;
+        return numbers::BAD_TABLE;
     }
     if !ring::allowed(n) {
-        return ring::refusal::BAD_BUFFER;
+        return numbers::BAD_BUFFER;
     }
     0
 }

@@ -5,6 +5,9 @@ use mathlib.Core.Bool.{Bool, true, false}
 use native.Mathlib.Omega.{arith}
 use lib.Dec.{eqb}
 use borrow.Author.Tests.{eqb-true, eq-eqb, leb-true}
+use Rattle.refusal.specs.declared.Refusal.{Refusal}
+use Rattle.refusal.specs.Numbers.{number}
+use Rattle.refusal.proofs.Refused.{refuses}
 use Rattle.message.proofs.Tests.{and_l, and_r, cases}
 use Rattle.ring.specs.Numbers.{first_needs, need}
 use Rattle.ring.specs.Ring.{allowed}
@@ -75,32 +78,22 @@ module _ (d n : ℕ) (fits : Bool) (r x : ℕ) (n₁ : eqb 1 x ≡ false) (n₂ 
   pub entered_rest : r ≡ x
   entered_rest = passed_rest fits 3 r x n₃ after_2
 
--- what a look judges before the descriptor's words, with a last test of its own: past it the rest of the chain says the
--- number, and a number there is the chain's
-module _ (d n : ℕ) (fits t : Bool) (k rest : ℕ) where
-  pub first-needs-none : eqb k 0 ≡ false → first_needs d n fits (need t k 0) ≡ 0 → first_needs d n fits (need t k rest) ≡ rest
+-- what every call judges first: past it the rest of the chain says the number, and a refusal there is the chain's
+module _ (d n : ℕ) (fits : Bool) (later : ℕ) where
+  pub first-needs-none : first_needs d n fits 0 ≡ 0 → first_needs d n fits later ≡ later
   unfolding first_needs need
-  first-needs-none q e =
+  first-needs-none e =
       cases (eqb d 16)
       (λ t₁. cases (allowed n)
-      (λ t₂. cases fits
-      (λ t₃. cases t
-      (λ t₄. rw (t₁, t₂, t₃, t₄))
-      (λ t₄. true_false (sym (eq-eqb k 0 (rw (t₁, t₂, t₃, t₄) at e)) ∙ q)))
-      (λ t₃. true_false (sym (eq-eqb 3 0 (rw (t₁, t₂, t₃) at e)))))
+      (λ t₂. cases fits (λ t₃. rw (t₁, t₂, t₃)) (λ t₃. true_false (sym (eq-eqb 3 0 (rw (t₁, t₂, t₃) at e)))))
       (λ t₂. true_false (sym (eq-eqb 2 0 (rw (t₁, t₂) at e)))))
       (λ t₁. true_false (sym (eq-eqb 1 0 (rw t₁ at e))))
 
-  pub first-needs-one :
-      (c : ℕ) → first_needs d n fits (need t k 0) ≡ c → (c ≡ 0 → ⊥) → first_needs d n fits (need t k rest) ≡ c
+  pub first-needs-one : (r : Refusal) → number r ≡ first_needs d n fits 0 → number r ≡ first_needs d n fits later
   unfolding first_needs need
-  first-needs-one c e z =
+  first-needs-one r e =
       cases (eqb d 16)
       (λ t₁. cases (allowed n)
-      (λ t₂. cases fits
-      (λ t₃. cases t
-      (λ t₄. absurd (z (sym (rw (t₁, t₂, t₃, t₄) at e))))
-      (λ t₄. rw (t₁, t₂, t₃, t₄) (rw (t₁, t₂, t₃, t₄) at e)))
-      (λ t₃. rw (t₁, t₂, t₃) (rw (t₁, t₂, t₃) at e)))
+      (λ t₂. cases fits (λ t₃. absurd (refuses r (rw (t₁, t₂, t₃) at e))) (λ t₃. rw (t₁, t₂, t₃) (rw (t₁, t₂, t₃) at e)))
       (λ t₂. rw (t₁, t₂) (rw (t₁, t₂) at e)))
       (λ t₁. rw t₁ (rw t₁ at e))

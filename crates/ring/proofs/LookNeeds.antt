@@ -1,12 +1,15 @@
 -- What a look needs of the descriptor, and offsets of the ring without a remainder. Assumes nothing.
 use Prim.Native.Nat.{ℕ, ◌+◌, ◌-◌, ◌≤◌, ◌<◌}
-use mathlib.Core.Path.{◌≡◌, refl, sym, ◌∙◌}
+use mathlib.Core.Path.{◌≡◌, refl, ◌∙◌}
 use mathlib.Core.Bool.{false, not, ◌&&◌}
 use native.Mathlib.Omega.{arith}
 use native.Mathlib.Nat.{mod-lt, mod-eq_of_lt, add-mod_right}
 use lib.Dec.{eqb, leb, ltb}
 use borrow.Author.Tests.{eqb-true, ltb-true, lt-ltb, le-leb, lt-leb, eq-eqb, not-true}
 use Rattle.message.specs.Header.{total_length}
+use Rattle.refusal.specs.declared.Refusal.{Refusal}
+use Rattle.refusal.specs.Numbers.{number}
+use Rattle.refusal.proofs.Refused.{refuses}
 use Rattle.message.proofs.Tests.{and_l, and_r, cases}
 use Rattle.ring.specs.Ring.{used}
 use Rattle.ring.specs.Numbers.{need, look_needs, receive_look_needs}
@@ -70,26 +73,25 @@ module _ (n own word status hd tl : ℕ) where
 
   -- and where one of them refuses, it is, whatever the rest
   pub look-needs-one :
-      (rest c : ℕ) → look_needs n own word status hd tl 0 ≡ c → (c ≡ 0 → ⊥)
-      → look_needs n own word status hd tl rest ≡ c
+      (rest : ℕ) (r : Refusal) → number r ≡ look_needs n own word status hd tl 0 → number r ≡ look_needs n own word status hd tl rest
   unfolding need look_needs
-  look-needs-one rest c e z =
+  look-needs-one rest r e =
       cases (eqb status 0)
       (λ a. cases (ltb hd n && ltb tl n)
-      (λ b. cases (eqb own word) (λ x. absurd (z (sym (rw (a, b, x) at e)))) (λ x. rw (a, b, x) (rw (a, b, x) at e)))
+      (λ b. cases (eqb own word) (λ x. absurd (refuses r (rw (a, b, x) at e))) (λ x. rw (a, b, x) (rw (a, b, x) at e)))
       (λ b. rw (a, b) (rw (a, b) at e)))
       (λ a. rw a (rw a at e))
 
 -- a receive's look reads the header where the descriptor's number is 0: else that number is its answer, whatever the
 -- header
 module _ (n own st hd tl h : ℕ) where
-  pub by_descriptor : (c : ℕ) → pending_number n own st hd tl ≡ c → (c ≡ 0 → ⊥) → receive_look_needs n own st hd tl h ≡ c
+  pub by_descriptor : (r : Refusal) → number r ≡ pending_number n own st hd tl → number r ≡ receive_look_needs n own st hd tl h
   unfolding receive_look_needs pending_number need look_needs
-  by_descriptor c e z =
+  by_descriptor r e =
       cases (eqb st 0)
       (λ a. cases (ltb hd n && ltb tl n)
       (λ b. cases (eqb own hd)
-      (λ x. cases (eqb (used n hd tl) 0) (λ u. rw (a, b, x, u) (rw (a, b, x, u) at e)) (λ u. absurd (z (sym (rw (a, b, x, u) at e)))))
+      (λ x. cases (eqb (used n hd tl) 0) (λ u. rw (a, b, x, u) (rw (a, b, x, u) at e)) (λ u. absurd (refuses r (rw (a, b, x, u) at e))))
       (λ x. rw (a, b, x) (rw (a, b, x) at e)))
       (λ b. rw (a, b) (rw (a, b) at e)))
       (λ a. rw a (rw a at e))

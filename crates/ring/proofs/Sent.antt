@@ -1,20 +1,23 @@
 -- What an accepted look of a send has. Assumes nothing.
 use Prim.Native.Nat.{ℕ, ◌-◌, ◌≤◌, ◌<◌}
 use mathlib.Core.Path.{◌≡◌, refl}
-use mathlib.Core.Bool.{Bool, true, false, cond}
-use mathlib.Core.List.{List, []}
+use mathlib.Core.Bool.{Bool, true, cond}
+use mathlib.Core.List.{List}
 use native.Mathlib.Omega.{arith}
 use lib.ListN.{length, get_or, set}
 use lib.Dec.{eqb, leb}
-use borrow.Author.Tests.{leb-true, ne_eqb}
+use borrow.Author.Tests.{leb-true}
 use Rattle.message.specs.Header.{starts_message, is_message}
-use Rattle.ring.specs.AtOnce.{whole_end, whole_send, send_by}
+use Rattle.std.proofs.Common.{Result, Ok, Err}
+use Rattle.refusal.specs.declared.Refusal.{Refusal}
+use Rattle.refusal.specs.Numbers.{number, number_of}
+use Rattle.refusal.proofs.NotZero.{number-not-0}
+use Rattle.refusal.proofs.Refused.{refuses}
+use Rattle.ring.specs.AtOnce.{own_after, sent_end, whole_send, send_by}
 use Rattle.ring.specs.Private.{PlacedBy}
-use Rattle.ring.specs.declared.sending.WholeEnd.{WholeEnd}
 use Rattle.ring.specs.Numbers.{look_needs, marked, need, number_at, send_look_needs, send_decision}
 use Rattle.ring.specs.Ring.{TAIL, free, head, status, tail, used}
 use Rattle.ring.proofs.Chains.{Entered, entered, entered_fits, entered_rest, passed, passed_rest}
-use Rattle.message.proofs.Tests.{cases}
 use Rattle.ring.proofs.LookNeeds.{look-needs-rest, look-needs_met}
 
 -- what an accepted look of a send has: for a state that fits, an own tail, and a ring of n dwords
@@ -71,18 +74,16 @@ module _ (fits : Bool) (own : ℕ) (m d : List ℕ) (n : ℕ) (e : number_at fit
 -- a whole send but for its end, and with it
 module _ (fits : Bool) (own : ℕ) (m d b : List ℕ) where
   pub placed_refused :
-      (c : ℕ) → c ≡ number_at fits own m d (length b) → (c ≡ 0 → ⊥)
-      → PlacedBy (record { code = c; len = 0; own = own }) (number_at fits own m d (length b)) own m b b
-  placed_refused c e n =
-      let z : eqb c 0 ≡ false = ne_eqb c 0 n in
-      rw (← e) (record { code = refl; no_len = refl; own-tail = rw z; small = λ q. absurd (n q); ring = rw z })
+      (r : Refusal) → number r ≡ number_at fits own m d (length b)
+      → PlacedBy (Err r) (number_at fits own m d (length b)) own m b b
+  placed_refused r e =
+      let z = number-not-0 r in
+      rw (← e) (record { code = refl; own-tail = rw z; small = λ q. absurd (refuses r q); ring = rw z })
 
   pub whole_placed :
-      (r : WholeEnd) (d' b' : List ℕ) → PlacedBy r (number_at fits own m d (length b)) own m b b'
-      → d' ≡ cond (eqb r.code 0) (set d TAIL r.own) (marked r.code d)
-      → whole_end r d' b' [] ≡ whole_send fits own m d b
+      (r : Result ℕ Refusal) (d' b' : List ℕ) → PlacedBy r (number_at fits own m d (length b)) own m b b'
+      → d' ≡ cond (eqb (number_of r) 0) (set d TAIL (own_after 0 r)) (marked (number_of r) d)
+      → sent_end own r d' b' ≡ whole_send fits own m d b
   unfolding send_by
-  whole_placed r d' b' p g =
-      cases (eqb (number_at fits own m d (length b)) 0)
-      (λ z. let o = rw z at p.own-tail in rw (rw (p.code, z) at g, p.code, p.no_len, rw z at p.ring, z, o))
-      (λ z. let o = rw z at p.own-tail in rw (rw (p.code, z) at g, p.code, p.no_len, rw z at p.ring, z, o))
+  whole_placed (Ok t) d' b' p g = rw (g, ← p.code, p.own-tail, p.ring, ← p.code)
+  whole_placed (Err r) d' b' p g = rw (g, ← p.code, p.ring, ← p.code, number-not-0 r)

@@ -8,11 +8,17 @@ use native.Mathlib.Omega.{arith}
 use native.Mathlib.Nat.{mod-lt, mod-eq_of_lt}
 use lib.ListN.{length, get_or, drop, set}
 use lib.Dec.{eqb, leb}
-use borrow.Author.Tests.{eqb-true, leb-true, ne_eqb, not-true}
+use borrow.Author.Tests.{eqb-true, leb-true, not-true}
 use Rattle.message.specs.Header.{total_length, well_formed}
-use Rattle.ring.specs.AtOnce.{whole_end, message_at, whole_receive, receive_by, receive_number}
+use Rattle.ring.specs.AtOnce.{judged, judged_header, received_end, message_at, whole_receive, receive_by, receive_number}
 use Rattle.ring.specs.Private.{TakenBy}
-use Rattle.ring.specs.declared.sending.WholeEnd.{WholeEnd}
+use Rattle.std.proofs.Common.{Ok, Err}
+use Rattle.refusal.specs.declared.Refusal.{Refusal}
+use Rattle.refusal.specs.declared.Refusal.TheVariants.{Malformed}
+use Rattle.refusal.specs.Numbers.{number, number_of}
+use Rattle.refusal.proofs.NotZero.{number-not-0}
+use Rattle.refusal.proofs.Refused.{refuses}
+use Rattle.ring.specs.declared.receiving.WholeReceive.{WholeReceive}
 use Rattle.ring.specs.Numbers.{first_needs, look_needs, header_number, marked, need, receive_look_needs, take_decision}
 use Rattle.ring.specs.Ring.{HEAD, allowed, head, status, tail, used}
 use Rattle.runs.specs.Buffer.{window}
@@ -69,6 +75,10 @@ module _ (n own st hd tl h : ℕ) (e : receive_look_needs n own st hd tl h ≡ 0
         below = omega (arith, f.same, f.head);
         whole = leb-true (total_length h) (used n hd tl) (rw in_use at l);
       }
+
+-- a refused look of a receive
+pub refused-header : (r : Refusal) (c own : ℕ) (b : List ℕ) → number r ≡ c → judged (Err r) ≡ judged_header c own b
+refused-header r c own b e = rw (← e, number-not-0 r)
 
 -- L is from 1 to 256
 pub total_low : (h : ℕ) → 1 ≤ total_length h
@@ -151,12 +161,18 @@ module _ (fits : Bool) (own : ℕ) (o d b : List ℕ) where
   decided = take_decision fits own (length o) d (length b) (get_or b own 0)
 
   pub taken_refused :
-      (c : ℕ) → decided ≡ c → (c ≡ 0 → ⊥) → TakenBy (record { code = c; len = 0; own = own }) decided own b o o
+      (r : Refusal) → decided ≡ number r → TakenBy (record { answer = Err r; own = own }) decided own b o o
   unfolding receive_number
-  taken_refused c e n =
-      let z : eqb c 0 ≡ false = ne_eqb c 0 n in
-      let t : eqb c 13 ≡ false = ap (λ (x : ℕ). eqb x 13) (sym e) ∙ take_not_13 fits own (length o) d (length b) (get_or b own 0) in
-      record { code = rw (e, z); len = rw z; own-head = rw (z, t); small = λ q. absurd (n (sym e ∙ q)); output = rw z }
+  taken_refused r e =
+      let z = number-not-0 r in
+      let t : eqb (number r) 13 ≡ false = ap (λ (x : ℕ). eqb x 13) (sym e) ∙ take_not_13 fits own (length o) d (length b) (get_or b own 0) in
+      record {
+        code = rw (e, z);
+        len = rw z;
+        own-head = rw (z, t);
+        small = λ q. absurd (refuses r (sym e ∙ q));
+        output = rw z;
+      }
 
   module _ (h s l : ℕ) (eh : h ≡ get_or b own 0) (el : l ≡ total_length h)
       (es : s ≡ get_or (window b (length b) own l) 1 0) (e : decided ≡ 0) where
@@ -169,7 +185,7 @@ module _ (fits : Bool) (own : ℕ) (o d b : List ℕ) where
     pub taken-formed :
         (x : ℕ) (after : List ℕ) → well_formed h s ≡ true → x ≡ (own + l) % length b → x < 16384
         → after ≡ window b (length b) own l ++ drop l o
-        → TakenBy (record { code = 0; len = l; own = x }) decided own b o after
+        → TakenBy (record { answer = Ok l; own = x }) decided own b o after
     unfolding receive_number need
     taken-formed x after f p q w =
         record {
@@ -182,7 +198,7 @@ module _ (fits : Bool) (own : ℕ) (o d b : List ℕ) where
 
     pub taken-malformed :
         (x : ℕ) → well_formed h s ≡ false → x ≡ (own + l) % length b → x < 16384
-        → TakenBy (record { code = 13; len = 0; own = x }) decided own b o o
+        → TakenBy (record { answer = Err Malformed; own = x }) decided own b o o
     unfolding receive_number need
     taken-malformed x f p q =
         record { code = rw (e, formed_same, f); len = refl; own-head = rw (← length_same) p; small = λ _. q; output = refl }
@@ -199,11 +215,11 @@ module _ (fits : Bool) (own : ℕ) (o d b : List ℕ) where
 
   -- and with its end, the whole receive at once
   pub whole-taken :
-      (r : WholeEnd) (d' o' : List ℕ) → TakenBy r decided own b o o'
-      → d' ≡ cond (eqb r.code 0 || eqb r.code 13) (set d HEAD r.own) (marked r.code d)
-      → whole_end r d' b o' ≡ whole_receive fits own o d b
+      (r : WholeReceive) (d' o' : List ℕ) → TakenBy r decided own b o o'
+      → d' ≡ cond (eqb (number_of r.answer) 0 || eqb (number_of r.answer) 13) (set d HEAD r.own) (marked (number_of r.answer) d)
+      → received_end r d' b o' ≡ whole_receive fits own o d b
   unfolding receive_by
   whole-taken r d' o' t g =
-      cases (eqb r.code 0 || eqb r.code 13)
+      cases (eqb (number_of r.answer) 0 || eqb (number_of r.answer) 13)
       (λ z. let p = rw z at t.own-head in rw (← t.code, z, t.len, t.output, rw z at g, p))
       (λ z. let p = rw z at t.own-head in rw (← t.code, z, t.len, t.output, rw z at g, p))

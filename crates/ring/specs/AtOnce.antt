@@ -2,12 +2,15 @@
 -- held to these, and that they are the steps one after another is proved in the crate above
 -- (channel/proofs/SendAtOnce.antt, ReceiveAtOnce.antt).
 use Rattle.std.specs.Prelude.{ℕ, ◌+◌, ◌%◌, Bool, ◌||◌, cond, List, [], ◌++◌, length, get_or, drop, set, eqb}
+use Rattle.std.specs.Prelude.{Result, Ok, Err}
+use Rattle.refusal.specs.declared.Refusal.{Refusal}
+use Rattle.refusal.specs.Numbers.{number, number_of}
 use Rattle.message.specs.Header.{total_length, well_formed}
 use Rattle.ring.specs.Ring.{HEAD, TAIL}
 use Rattle.runs.specs.Buffer.{window, stored}
 use Rattle.ring.specs.Numbers.{need, marked, number_at, take_decision}
 use Rattle.ring.specs.declared.receiving.JudgedHeader.{JudgedHeader}
-use Rattle.ring.specs.declared.sending.WholeEnd.{WholeEnd}
+use Rattle.ring.specs.declared.receiving.WholeReceive.{WholeReceive}
 
 -- the number, L, the own offset afterwards, and the lent memory afterwards
 pub record AtOnce : Type 0 where
@@ -18,9 +21,22 @@ pub record AtOnce : Type 0 where
   pub buf : List ℕ
   pub out : List ℕ
 
--- in the answer struct of a whole call, with the lent memory as the call leaves it
-abbrev pub whole_end : WholeEnd → List ℕ → List ℕ → List ℕ → AtOnce
-whole_end r d b o = record { code = r.code; len = r.len; own = r.own; desc = d; buf = b; out = o }
+-- the length L that an answer has, 0 where it refuses
+abbrev pub len_of : Result ℕ Refusal → ℕ
+len_of (Ok l) = l
+len_of (Err r) = 0
+
+-- the own offset after an answer that has the next one: a refusal leaves it
+abbrev pub own_after : ℕ → Result ℕ Refusal → ℕ
+own_after own (Ok next) = next
+own_after own (Err r) = own
+
+-- the answer of a whole send from an own tail on, and of a whole receive, with the lent memory as the call leaves it
+abbrev pub sent_end : ℕ → Result ℕ Refusal → List ℕ → List ℕ → AtOnce
+sent_end own r d b = record { code = number_of r; len = 0; own = own_after own r; desc = d; buf = b; out = [] }
+
+abbrev pub received_end : WholeReceive → List ℕ → List ℕ → List ℕ → AtOnce
+received_end r d b o = record { code = number_of r.answer; len = len_of r.answer; own = r.own; desc = d; buf = b; out = o }
 
 -- a message with these two dwords in the place of its own first two
 abbrev pub opened_by : ℕ → ℕ → List ℕ → List ℕ
@@ -48,8 +64,17 @@ length_at own b = total_length (get_or b own 0)
 abbrev pub message_at : ℕ → List ℕ → List ℕ
 message_at own b = window b (length b) own (length_at own b)
 
--- what a receive's look answers by its number: also L and the header that it judged, where it accepts
-abbrev pub judged_header : ℕ → ℕ → List ℕ → JudgedHeader
+-- what a receive's look answers: its number, and where that is 0 also L and the header that it judged
+pub record Judged : Type 0 where
+  pub code : ℕ
+  pub len : ℕ
+  pub header : ℕ
+
+abbrev pub judged : Result JudgedHeader Refusal → Judged
+judged (Ok h) = record { code = 0; len = h.len; header = h.header }
+judged (Err r) = record { code = number r; len = 0; header = 0 }
+
+abbrev pub judged_header : ℕ → ℕ → List ℕ → Judged
 judged_header c own b = record { code = c; len = cond (eqb c 0) (length_at own b) 0; header = cond (eqb c 0) (get_or b own 0) 0 }
 
 -- the number of a whole receive, of which c is the number but for 13

@@ -6,11 +6,10 @@ mod descriptor;
 mod memory;
 mod numbers;
 mod receiving;
-pub mod refusal;
 mod sending;
 
 pub use descriptor::{DESCRIPTOR_DWORDS, HEAD, STATUS, TAIL};
 pub use memory::{mark, publish_head, publish_tail, put, wide};
-pub use numbers::{allowed, first_needs, need};
-pub use receiving::{JudgedHeader, receive_decision, whole_receive};
-pub use sending::{WholeEnd, send_decision, whole_send, whole_send_as};
+pub use numbers::{allowed, first_needs};
+pub use receiving::{JudgedHeader, WholeReceive, receive_decision, whole_receive};
+pub use sending::{send_decision, whole_send, whole_send_as};

@@ -4,7 +4,7 @@ ghost use Rattle.ring.specs.Ring.{HEAD, TAIL};
 ghost use Rattle.ring.specs.Numbers.{marked};
 
 use crate::descriptor::{HEAD, STATUS, STATUS_MISMATCH, STATUS_OVERFLOW, STATUS_UNDERFLOW, TAIL};
-use crate::refusal;
+use refusal::Refusal;
 
 pub fn wide(x: u32) -> usize
     ensures { result ≡ x }
@@ -21,15 +21,22 @@ pub fn put(s: &mut [u32], i: usize, v: u32)
     }
 }
 
-// Sets STATUS after 7, 8 and 9: overflow, mismatch and underflow.
+// The reasons that set STATUS, by their numbers: what is marked is any number, of which these three say something.
+const OVERFLOW: u32 = Refusal::Overflow as u32;
+
+const MISMATCH: u32 = Refusal::Mismatch as u32;
+
+const UNDERFLOW: u32 = Refusal::Underflow as u32;
+
+// Sets STATUS after 7, 8 and 9: overflow, mismatch and underflow; any other number leaves it.
 pub fn mark(desc: &mut [u32], code: u32)
     ensures { desc.new ≡ marked code desc.old }
 {
-    if code == refusal::OVERFLOW {
+    if code == OVERFLOW {
         put(desc, STATUS, STATUS_OVERFLOW);
-    } else if code == refusal::MISMATCH {
+    } else if code == MISMATCH {
         put(desc, STATUS, STATUS_MISMATCH);
-    } else if code == refusal::UNDERFLOW {
+    } else if code == UNDERFLOW {
         put(desc, STATUS, STATUS_UNDERFLOW);
     }
 }

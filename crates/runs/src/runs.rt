@@ -11,25 +11,13 @@ use crate::offset::{N_MAX, past};
 // Where a second run starts: at the buffer's first dword.
 const FRONT: usize = 0;
 
-// Fills dst with the dwords of src. Its only test is its end: it knows neither a buffer nor a place.
-fn copy_run(dst: &mut [u32], src: &[u32])
-    requires { length dst.old ≡ length src.now }
-    ensures { dst.new ≡ src.now }
-{
-    let mut i = 0;
-    while i < src.len() {
-        dst[i] = src[i];
-        i += 1;
-    }
-}
-
 // Stores a straight run of dwords from place `at` on.
 fn store_run(buf: &mut [u32], at: usize, src: &[u32])
     requires { at + length src.now ≤ length buf.old }
     ensures { buf.new ≡ with_run buf.old at src.now }
 {
     let end = at + src.len();
-    copy_run(&mut buf[at..end], src);
+    slices::copy(&mut buf[at..end], src);
 }
 
 // Stores a run that a dword given by value opens.
@@ -150,7 +138,7 @@ fn load_run(dst: &mut [u32], buf: &[u32], at: usize)
     ensures { dst.new ≡ run_of buf.now at (length dst.old) }
 {
     let end = at + dst.len();
-    copy_run(dst, &buf[at..end]);
+    slices::copy(dst, &buf[at..end]);
 }
 
 // Fills dst with the dwords of the ring from place `at` on, read in their runs.

@@ -24,10 +24,7 @@ pub fn whole_word<'a>(rt: &impl Env, i: usize, room: &'a mut [u8]) -> Option<&'a
 
 // The same, and no bytes where there is none.
 pub fn word<'a>(rt: &impl Env, i: usize, room: &'a mut [u8]) -> &'a [u8] {
-    match rt.arg(i, room) {
-        Ok(n) => &room[..n],
-        Err(_) => &room[..0],
-    }
+    whole_word(rt, i, room).unwrap_or(&[])
 }
 
 // How many words there are, the program's own name among them.

@@ -1,25 +1,23 @@
 // Names that somebody else chose, of files and of entries: in quotes, and escaped so that none can end its quotes, its
 // line or look like another.
-use crate::print::text;
-use std::io;
+use std::fmt;
+use std::fmt::Write;
 
-// A byte of a name: printable ASCII as it stands, a quote or a backslash behind a backslash, any other by its
-// hexadecimal digits.
-fn letter(rt: &impl Print, b: u8) -> io::Result<()> {
-    if (b < 0x20) | (0x7e < b) {
-        return print!(rt; "\\x{b:02x}");
-    }
-    if (b == b'"') | (b == b'\\') {
-        text(rt, b"\\")?;
-    }
-    text(rt, &[b])
-}
+// A name, which prints in quotes: printable ASCII as it stands, a quote or a backslash behind a backslash, any other byte
+// by its hexadecimal digits.
+#[derive(Clone, Copy)]
+pub struct Quoted<'a>(pub &'a [u8]);
 
-// A name in quotes.
-pub fn quoted(rt: &impl Print, name: &[u8]) -> io::Result<()> {
-    text(rt, b"\"")?;
-    for i in 0..name.len() {
-        letter(rt, name[i])?;
+impl<'a> fmt::Display for Quoted<'a> {
+    fn fmt<W: fmt::Write>(&self, f: &mut fmt::Formatter<W>) -> fmt::Result {
+        f.write_char('"')?;
+        for &b in self.0 {
+            match b {
+                b'"' | b'\\' => write!(f, "\\{}", char::from(b))?,
+                b' '..=b'~' => f.write_char(char::from(b))?,
+                _ => write!(f, "\\x{b:02x}")?,
+            }
+        }
+        f.write_char('"')
     }
-    text(rt, b"\"")
 }

@@ -1,64 +1,103 @@
-// The ring's picture: 64 characters for 1,024 places, 16 to a character.
-use crate::answers::{PLACES, descriptor, used_of};
-use crate::print::text;
-use std::io;
+// A descriptor in words, and the ring's picture: 64 characters for 1,024 places, 16 to a character.
+ghost use Rattle.std.specs.Prelude.{◌≡◌, ◌<◌, slice_index};
+
+use crate::numbers::Status;
+use ring::{DESCRIPTOR_DWORDS, HEAD, STATUS, TAIL};
+use std::fmt;
+use std::fmt::Write;
+
+// The places of the ring that programs show.
+const PLACES: usize = 1024;
 
 // The places of a character.
 const WIDE: usize = 16;
 
-// Whether the 16 places from `place` on have x among them.
-fn lies_in(place: usize, x: usize) -> bool {
-    if x < place { false } else { x - place < WIDE }
+// The characters of the picture.
+const CELLS: usize = PLACES / WIDE;
+
+// A descriptor as it is shown: HEAD and TAIL, what is used and free by them where both lie in the ring, and STATUS.
+#[derive(Clone, Copy, Debug, PartialEq, Eq)]
+pub struct Descriptor {
+    head: usize,
+    tail: usize,
+    status: Status,
 }
 
-// H over HEAD, T over TAIL, X over both.
-fn mark(place: usize, head: usize, tail: usize) -> u8 {
-    if lies_in(place, head) {
-        if lies_in(place, tail) { b'X' } else { b'H' }
-    } else if lies_in(place, tail) {
-        b'T'
-    } else {
-        b' '
-    }
-}
-
-// '#' where one of 16 places is used, '.' where all are free.
-fn cell(place: usize, head: usize, used: usize) -> u8 {
-    let past_head = place.wrapping_sub(head) % PLACES;
-    if (past_head < used) | (lies_in(place, head) & (0 < used)) {
-        b'#'
-    } else {
-        b'.'
-    }
-}
-
-// The marks up to the last of the two.
-fn marks(rt: &impl Print, head: usize, tail: usize, last: usize) -> io::Result<()> {
-    for i in 0..64 {
-        let place = WIDE * i;
-        if last < place {
-            return Ok(());
+impl Descriptor {
+    pub fn of(desc: &[u32; DESCRIPTOR_DWORDS]) -> Descriptor
+        ensures head { result.head ≡ slice_index desc.now 0 }
+        ensures tail { result.tail ≡ slice_index desc.now 1 }
+        ensures status { result.status.0 ≡ slice_index desc.now 2 }
+    {
+        Descriptor {
+            head: desc[HEAD] as usize,
+            tail: desc[TAIL] as usize,
+            status: Status(desc[STATUS]),
         }
-        text(rt, &[mark(place, head, tail)])?;
     }
-    Ok(())
+
+    // (TAIL - HEAD) mod 1,024.
+    fn used(self) -> usize
+        ensures { result < 1024 }
+    {
+        self.tail.wrapping_sub(self.head) % PLACES
+    }
 }
 
-fn cells(rt: &impl Print, head: usize, used: usize) -> io::Result<()> {
-    for i in 0..64 {
-        text(rt, &[cell(WIDE * i, head, used)])?;
+impl fmt::Display for Descriptor {
+    fn fmt<W: fmt::Write>(&self, f: &mut fmt::Formatter<W>) -> fmt::Result {
+        let head = self.head;
+        let tail = self.tail;
+        write!(f, "HEAD {head}, TAIL {tail}, ")?;
+        if head < PLACES && tail < PLACES {
+            let used = self.used();
+            write!(f, "used {used}, free {}, ", PLACES - 1 - used)?;
+        }
+        write!(f, "STATUS {}", self.status)
     }
-    Ok(())
 }
 
-// The ring with HEAD and TAIL over it, and the descriptor under it.
-pub fn ring(rt: &impl Print, head: u32, tail: u32, status: u32) -> io::Result<()> {
-    let h = head as usize;
-    let t = tail as usize;
-    text(rt, b"    ")?;
-    marks(rt, h, t, if h < t { t } else { h })?;
-    text(rt, b"\n    ")?;
-    cells(rt, h, used_of(h, t))?;
-    text(rt, b"\n    ")?;
-    descriptor(rt, head, tail, status)
+// A ring with HEAD and TAIL over it, and the descriptor under it.
+#[derive(Clone, Copy, Debug, PartialEq, Eq)]
+pub struct Picture(pub Descriptor);
+
+impl Picture {
+    // H over HEAD, T over TAIL, X over both.
+    fn mark(self, cell: usize) -> char {
+        let d = self.0;
+        match (d.head / WIDE == cell, d.tail / WIDE == cell) {
+            (true, true) => 'X',
+            (true, false) => 'H',
+            (false, true) => 'T',
+            (false, false) => ' ',
+        }
+    }
+
+    // '#' where one of a cell's places is used, '.' where all are free.
+    fn fill(self, cell: usize) -> char {
+        let d = self.0;
+        let used = d.used();
+        let past_head = cell.wrapping_mul(WIDE).wrapping_sub(d.head) % PLACES;
+        if past_head < used || (d.head / WIDE == cell && 0 < used) {
+            '#'
+        } else {
+            '.'
+        }
+    }
+}
+
+impl fmt::Display for Picture {
+    fn fmt<W: fmt::Write>(&self, f: &mut fmt::Formatter<W>) -> fmt::Result {
+        let d = self.0;
+        let last = d.head.max(d.tail) / WIDE;
+        f.write_str("    ")?;
+        for cell in (0..CELLS).take_while(|cell| *cell <= last) {
+            f.write_char(self.mark(cell))?;
+        }
+        f.write_str("\n    ")?;
+        for cell in 0..CELLS {
+            f.write_char(self.fill(cell))?;
+        }
+        write!(f, "\n    {d}")
+    }
 }

@@ -1,5 +1,7 @@
 // A receive on a state in words: its three steps and the whole receive.
 ghost use Rattle.std.specs.Prelude.{◌≡◌, List, [], ◌++◌, ℕ, ◌+◌, ◌-◌, ◌≤◌, ◌<◌, length, get_or, take, drop};
+ghost use Rattle.refusal.specs.Numbers.{number_of};
+ghost use Rattle.ring.specs.AtOnce.{len_of};
 ghost use Rattle.runs.specs.Buffer;
 ghost use Rattle.runs.specs.Buffer.{window};
 ghost use Rattle.runs.specs.TwoRuns.{with_run};
@@ -8,65 +10,68 @@ ghost use Rattle.side.specs.Words.{state_of, in_words};
 
 use crate::words;
 use crate::words::STATE_WORDS;
-use channel::{Laid, publish_number, receiving_number};
 use message::dword_at;
-use ring::{need, refusal};
+use refusal::Refusal;
 use runs::past;
 
 // A whole receive.
-pub fn receive(w: &mut [u32; STATE_WORDS], desc: &mut [u32], buf: &[u32], out: &mut [u32]) -> Laid
-    ensures { in_words result.code result.len w.new desc.new buf.now out.new
+pub fn receive(
+    w: &mut [u32; STATE_WORDS],
+    desc: &mut [u32],
+    buf: &[u32],
+    out: &mut [u32],
+) -> Result<usize, Refusal>
+    ensures { in_words (number_of result) (len_of result) w.new desc.new buf.now out.new
         ≡ Receive.whole (state_of w.old) out.old desc.old buf.now }
 {
     let s = words::counts_of(&w[..]);
     let fits = words::is_idle(&w[..], s, buf.len());
     let end = ring::whole_receive(fits, s.own, desc, buf, out);
-    if (end.code == 0) | (end.code == refusal::MALFORMED) {
-        w[words::OWN] = end.own as u32;
-    }
-    Laid {
-        code: end.code,
-        len: end.len,
+    match end.answer {
+        Ok(_) | Err(Refusal::Malformed) => {
+            w[words::OWN] = end.own as u32;
+            end.answer
+        }
+        Err(reason) => Err(reason),
     }
 }
 
 // Judges the descriptor and the header, and takes a copy of the header.
-pub fn receive_look(w: &mut [u32; STATE_WORDS], desc: &mut [u32], buf: &[u32]) -> u32
-    ensures { in_words result 0 w.new desc.new buf.now []
+pub fn receive_look(
+    w: &mut [u32; STATE_WORDS],
+    desc: &mut [u32],
+    buf: &[u32],
+) -> Result<(), Refusal>
+    ensures { in_words (number_of result) 0 w.new desc.new buf.now []
         ≡ Receive.look (state_of w.old) desc.old buf.now }
 {
-    let n = buf.len();
     let s = words::counts_of(&w[..]);
-    let fits = words::is_idle(&w[..], s, n);
-    let judged = ring::receive_decision(fits, s.own, &desc[..], buf);
-    let code = judged.code;
-    if code != 0 {
-        ring::mark(desc, code);
-        return code;
+    let fits = words::is_idle(&w[..], s, buf.len());
+    match ring::receive_decision(fits, s.own, &desc[..], buf) {
+        Err(reason) => {
+            ring::mark(desc, reason.number());
+            Err(reason)
+        }
+        Ok(judged) => {
+            w[words::LEN] = judged.len as u32;
+            w[words::MOVED] = 1;
+            w[words::HEADER] = judged.header;
+            Ok(())
+        }
     }
-    let header = judged.header;
-    w[words::LEN] = message::total_length(header) as u32;
-    w[words::MOVED] = 1;
-    w[words::HEADER] = header;
-    0
 }
 
 // Copies the next dword of the message.
-pub fn receive_copy(w: &mut [u32; STATE_WORDS], desc: &[u32], buf: &[u32]) -> u32
-    ensures { in_words result 0 w.new desc.now buf.now []
+pub fn receive_copy(w: &mut [u32; STATE_WORDS], desc: &[u32], buf: &[u32]) -> Result<(), Refusal>
+    ensures { in_words (number_of result) 0 w.new desc.now buf.now []
         ≡ Receive.move (state_of w.old) desc.now buf.now }
 {
     let n = buf.len();
     let s = words::counts_of(&w[..]);
-    let moved = s.moved;
-    let later = need(moved < s.len, refusal::OUT_OF_TURN, 0);
-    let code = receiving_number(s, w[words::HEADER], desc.len(), n, later);
-    if code != 0 {
-        return code;
-    }
-    w[words::COPY + moved] = dword_at(buf, past(s.own, moved, n));
-    w[words::MOVED] = (moved + 1) as u32;
-    0
+    s.receiving_needs(w[words::HEADER], desc.len(), n, s.moved < s.len)?;
+    w[words::COPY + s.moved] = dword_at(buf, past(s.own, s.moved, n));
+    w[words::MOVED] = (s.moved + 1) as u32;
+    Ok(())
 }
 
 // Copies dwords `moved` to len - 1 of the message to their places in the copy, read in their runs.
@@ -83,21 +88,19 @@ fn copy_left(w: &mut [u32], buf: &[u32], own: usize, moved: usize, len: usize)
 }
 
 // Copies every dword of the message that is left, at once. Each is read once, and judged at publish.
-pub fn receive_copy_all(w: &mut [u32; STATE_WORDS], desc: &[u32], buf: &[u32]) -> u32
-    ensures { in_words result 0 w.new desc.now buf.now []
+pub fn receive_copy_all(
+    w: &mut [u32; STATE_WORDS],
+    desc: &[u32],
+    buf: &[u32],
+) -> Result<(), Refusal>
+    ensures { in_words (number_of result) 0 w.new desc.now buf.now []
         ≡ Receive.move_all (state_of w.old) desc.now buf.now }
 {
-    let n = buf.len();
     let s = words::counts_of(&w[..]);
-    let moved = s.moved;
-    let len = s.len;
-    let code = receiving_number(s, w[words::HEADER], desc.len(), n, 0);
-    if code != 0 {
-        return code;
-    }
-    copy_left(&mut w[..], buf, s.own, moved, len);
-    w[words::MOVED] = len as u32;
-    0
+    s.receiving_needs(w[words::HEADER], desc.len(), buf.len(), true)?;
+    copy_left(&mut w[..], buf, s.own, s.moved, s.len);
+    w[words::MOVED] = s.len as u32;
+    Ok(())
 }
 
 // Lays the copy's first len dwords, of which two were judged and are given by value, at the front of the output, and
@@ -121,32 +124,34 @@ fn lay(
 }
 
 // A publish over a ring of n dwords, which it is not lent: the header cannot be read again.
-fn publish_at(w: &mut [u32; STATE_WORDS], desc: &mut [u32], n: usize, out: &mut [u32]) -> Laid
+fn publish_at(
+    w: &mut [u32; STATE_WORDS],
+    desc: &mut [u32],
+    n: usize,
+    out: &mut [u32],
+) -> Result<usize, Refusal>
     ensures { (b : List ℕ) → length b ≡ n
-        → in_words result.code result.len w.new desc.new b out.new
+        → in_words (number_of result) (len_of result) w.new desc.new b out.new
         ≡ Receive.publish (state_of w.old) out.old desc.old b }
 {
     let s = words::counts_of(&w[..]);
     let header = w[words::HEADER];
     let second = w[words::SECOND];
-    let code = publish_number(s, header, second, out.len(), desc.len(), n);
-    if (code != 0) & (code != refusal::MALFORMED) {
-        return Laid { code, len: 0 };
+    match s.publish_needs(header, second, out.len(), desc.len(), n) {
+        Ok(()) => {
+            let head = lay(out, header, second, &w[..], s.len, s.own, n) as u32;
+            ring::publish_head(desc, head);
+            words::idle_at(&mut w[..], head);
+            Ok(s.len)
+        }
+        Err(Refusal::Malformed) => {
+            let head = past(s.own, s.len, n) as u32;
+            ring::publish_head(desc, head);
+            words::idle_at(&mut w[..], head);
+            Err(Refusal::Malformed)
+        }
+        Err(reason) => Err(reason),
     }
-    let len = s.len;
-    if code == refusal::MALFORMED {
-        let head = past(s.own, len, n) as u32;
-        ring::publish_head(desc, head);
-        words::idle_at(&mut w[..], head);
-        return Laid {
-            code: refusal::MALFORMED,
-            len: 0,
-        };
-    }
-    let head = lay(out, header, second, &w[..], len, s.own, n) as u32;
-    ring::publish_head(desc, head);
-    words::idle_at(&mut w[..], head);
-    Laid { code: 0, len }
 }
 
 // Publishes HEAD past the message, and lays the copy at the front of the output where it is well formed. The ring is
@@ -156,8 +161,8 @@ pub fn receive_publish(
     desc: &mut [u32],
     buf: &[u32],
     out: &mut [u32],
-) -> Laid
-    ensures { in_words result.code result.len w.new desc.new buf.now out.new
+) -> Result<usize, Refusal>
+    ensures { in_words (number_of result) (len_of result) w.new desc.new buf.now out.new
         ≡ Receive.publish (state_of w.old) out.old desc.old buf.now }
 {
     publish_at(w, desc, buf.len(), out)

@@ -1,5 +1,6 @@
 // A send on a state in words: its three steps and the whole send.
 ghost use Rattle.std.specs.Prelude.{◌≡◌, List, [], ℕ, ◌+◌, ◌-◌, ◌≤◌, ◌<◌, length, get_or, take, drop};
+ghost use Rattle.refusal.specs.Numbers.{number_of};
 ghost use Rattle.runs.specs.Buffer.{stored};
 ghost use Rattle.ring.specs.AtOnce.{opened_by};
 ghost use Rattle.channel.specs.Send;
@@ -7,8 +8,8 @@ ghost use Rattle.side.specs.Words.{state_of, in_words};
 
 use crate::words;
 use crate::words::STATE_WORDS;
-use channel::sending_number;
 use message::dword_at;
+use refusal::Refusal;
 use runs::past;
 
 // A whole send of a message with these two dwords in the place of its own: a caller who has read and judged them, or
@@ -20,23 +21,26 @@ pub fn send_as(
     header: u32,
     word: u32,
     msg: &[u32],
-) -> u32
-    ensures { in_words result 0 w.new desc.new buf.new []
+) -> Result<(), Refusal>
+    ensures { in_words (number_of result) 0 w.new desc.new buf.new []
         ≡ Send.whole (state_of w.old) (opened_by header word msg.now) desc.old
         buf.old }
 {
     let s = words::counts_of(&w[..]);
     let fits = words::is_idle(&w[..], s, buf.len());
-    let end = ring::whole_send_as(fits, s.own, desc, buf, header, word, msg);
-    if end.code == 0 {
-        w[words::OWN] = end.own as u32;
-    }
-    end.code
+    let tail = ring::whole_send_as(fits, s.own, desc, buf, header, word, msg)?;
+    w[words::OWN] = tail as u32;
+    Ok(())
 }
 
 // A whole send: the message's first two dwords are read here, and nowhere else.
-pub fn send(w: &mut [u32; STATE_WORDS], desc: &mut [u32], buf: &mut [u32], msg: &[u32]) -> u32
-    ensures { in_words result 0 w.new desc.new buf.new []
+pub fn send(
+    w: &mut [u32; STATE_WORDS],
+    desc: &mut [u32],
+    buf: &mut [u32],
+    msg: &[u32],
+) -> Result<(), Refusal>
+    ensures { in_words (number_of result) 0 w.new desc.new buf.new []
         ≡ Send.whole (state_of w.old) msg.now desc.old buf.old }
 {
     let header = dword_at(msg, 0);
@@ -46,8 +50,13 @@ pub fn send(w: &mut [u32; STATE_WORDS], desc: &mut [u32], buf: &mut [u32], msg: 
 
 // Judges a message and the descriptor, and takes a copy of the message. Its first two dwords are read once: those that
 // are judged are those that are copied.
-pub fn send_look(w: &mut [u32; STATE_WORDS], desc: &mut [u32], buf: &[u32], msg: &[u32]) -> u32
-    ensures { in_words result 0 w.new desc.new buf.now []
+pub fn send_look(
+    w: &mut [u32; STATE_WORDS],
+    desc: &mut [u32],
+    buf: &[u32],
+    msg: &[u32],
+) -> Result<(), Refusal>
+    ensures { in_words (number_of result) 0 w.new desc.new buf.now []
         ≡ Send.look (state_of w.old) msg.now desc.old buf.now }
 {
     let n = buf.len();
@@ -55,33 +64,28 @@ pub fn send_look(w: &mut [u32; STATE_WORDS], desc: &mut [u32], buf: &[u32], msg:
     let fits = words::is_idle(&w[..], s, n);
     let header = dword_at(msg, 0);
     let word = dword_at(msg, 1);
-    let code = ring::send_decision(fits, s.own, &desc[..], n, msg.len(), header, word);
-    if code != 0 {
-        ring::mark(desc, code);
-        return code;
+    if let Err(reason) = ring::send_decision(fits, s.own, &desc[..], n, msg.len(), header, word) {
+        ring::mark(desc, reason.number());
+        return Err(reason);
     }
     words::load(&mut w[..], header, word, &msg[2..]);
-    0
+    Ok(())
 }
 
 // Stores the next dword of the copy in the buffer.
-pub fn send_store(w: &mut [u32; STATE_WORDS], desc: &[u32], buf: &mut [u32]) -> u32
-    ensures { in_words result 0 w.new desc.now buf.new []
+pub fn send_store(w: &mut [u32; STATE_WORDS], desc: &[u32], buf: &mut [u32]) -> Result<(), Refusal>
+    ensures { in_words (number_of result) 0 w.new desc.now buf.new []
         ≡ Send.move (state_of w.old) desc.now buf.old }
 {
     let n = buf.len();
     let s = words::counts_of(&w[..]);
-    let moved = s.moved;
     let header = w[words::HEADER];
     let word = w[words::SECOND];
-    let code = sending_number(s, header, word, desc.len(), n, moved < s.len);
-    if code != 0 {
-        return code;
-    }
-    let dword = words::dword_of_copy(&w[..], header, word, moved);
-    ring::put(buf, past(s.own, moved, n), dword);
-    w[words::MOVED] = (moved + 1) as u32;
-    0
+    s.sending_needs(header, word, desc.len(), n, s.moved < s.len)?;
+    let dword = words::dword_of_copy(&w[..], header, word, s.moved);
+    ring::put(buf, past(s.own, s.moved, n), dword);
+    w[words::MOVED] = (s.moved + 1) as u32;
+    Ok(())
 }
 
 // Stores dwords `moved` to len - 1 of the copy in the ring, in their runs. The first two dwords of the copy were
@@ -117,52 +121,50 @@ fn store_left(
 }
 
 // Stores every dword of the copy that is left, at once.
-pub fn send_store_all(w: &mut [u32; STATE_WORDS], desc: &[u32], buf: &mut [u32]) -> u32
-    ensures { in_words result 0 w.new desc.now buf.new []
+pub fn send_store_all(
+    w: &mut [u32; STATE_WORDS],
+    desc: &[u32],
+    buf: &mut [u32],
+) -> Result<(), Refusal>
+    ensures { in_words (number_of result) 0 w.new desc.now buf.new []
         ≡ Send.move_all (state_of w.old) desc.now buf.old }
 {
-    let n = buf.len();
     let s = words::counts_of(&w[..]);
-    let moved = s.moved;
-    let len = s.len;
     let header = w[words::HEADER];
     let word = w[words::SECOND];
-    let code = sending_number(s, header, word, desc.len(), n, true);
-    if code != 0 {
-        return code;
-    }
-    store_left(buf, &w[..], header, word, s.own, moved, len);
-    w[words::MOVED] = len as u32;
-    0
+    s.sending_needs(header, word, desc.len(), buf.len(), true)?;
+    store_left(buf, &w[..], header, word, s.own, s.moved, s.len);
+    w[words::MOVED] = s.len as u32;
+    Ok(())
 }
 
 // A publish over a ring of n dwords, which it is not lent.
-fn publish_at(w: &mut [u32; STATE_WORDS], desc: &mut [u32], n: usize) -> u32
+fn publish_at(w: &mut [u32; STATE_WORDS], desc: &mut [u32], n: usize) -> Result<(), Refusal>
     ensures { (b : List ℕ) → length b ≡ n
-        → in_words result 0 w.new desc.new b []
+        → in_words (number_of result) 0 w.new desc.new b []
         ≡ Send.publish (state_of w.old) desc.old b }
 {
     let s = words::counts_of(&w[..]);
-    let code = sending_number(
-        s,
+    s.sending_needs(
         w[words::HEADER],
         w[words::SECOND],
         desc.len(),
         n,
         s.len <= s.moved,
-    );
-    if code != 0 {
-        return code;
-    }
+    )?;
     let tail = past(s.own, s.len, n) as u32;
     ring::publish_tail(desc, tail);
     words::idle_at(&mut w[..], tail);
-    0
+    Ok(())
 }
 
 // Publishes TAIL past the message, once all of it is stored.
-pub fn send_publish(w: &mut [u32; STATE_WORDS], desc: &mut [u32], buf: &[u32]) -> u32
-    ensures { in_words result 0 w.new desc.new buf.now []
+pub fn send_publish(
+    w: &mut [u32; STATE_WORDS],
+    desc: &mut [u32],
+    buf: &[u32],
+) -> Result<(), Refusal>
+    ensures { in_words (number_of result) 0 w.new desc.new buf.now []
         ≡ Send.publish (state_of w.old) desc.old buf.now }
 {
     publish_at(w, desc, buf.len())

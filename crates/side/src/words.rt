@@ -4,7 +4,7 @@ ghost use Rattle.channel.specs.State.{zeros, idle_at, idle, counts_of};
 ghost use Rattle.channel.specs.Send;
 ghost use Rattle.side.specs.Words.{state_of};
 
-use channel::{Counts, clear};
+use channel::Counts;
 use ring::wide;
 
 // The words of a state: n, own, len, moved, and the copy of the message, of which the first two dwords are judged.
@@ -42,7 +42,7 @@ pub(crate) fn is_idle(w: &[u32], s: Counts, n: usize) -> bool
     requires { (length w.now ≡ 260) × (s ≡ counts_of (state_of w.now)) }
     ensures { result ≡ idle n (state_of w.now) }
 {
-    channel::fits_idle(n, s, &w[COPY..])
+    s.fits_idle(n, &w[COPY..])
 }
 
 // Makes the copy all zeros.
@@ -50,7 +50,7 @@ fn clear_copy(w: &mut [u32])
     requires { 4 ≤ length w.old }
     ensures { w.new ≡ take 4 w.old ++ replicate (length w.old - 4) 0 }
 {
-    clear(&mut w[COPY..]);
+    w[COPY..].fill(0);
 }
 
 // Makes the words idle at an own offset.

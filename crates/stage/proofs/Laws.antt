@@ -4,8 +4,8 @@ use borrow.Author.Tests.{lt-leb}
 use borrow.Rule.Slice.PartMut.{put_mid}
 use Rattle.message.specs.Packing.{Answer, of_packed, pack, pack_answer}
 use Rattle.message.specs.declared.Message.{Message}
-use Rattle.message.specs.declared.Packed.{Packed}
-use Rattle.message.specs.declared.Packed.TheVariants.{Unfit, Dwords}
+use Rattle.std.specs.Prelude.{Result, Ok, Err}
+use Rattle.refusal.specs.declared.Refusal.{Refusal}
 use Rattle.message.proofs.Agreement.{answers}
 use Rattle.channel.specs.State.{zeros}
 use Rattle.stage.specs.Files.{Laying, from}
@@ -45,19 +45,18 @@ length-counting first zero = refl
 length-counting first (suc k) = ap suc (length-counting ((first + 1) % 2 ^ 32) k)
 
 -- all of what was lent is its front
-pub front-all : (s : Bor (List ℕ)) (n : ℕ) → length s.now < n → FrontOf s (take n s.now) s
+pub front-all : {T : Type 0} (s : Bor (List T)) (n : ℕ) → length s.now < n → FrontOf s (take n s.now) s
 front-all s n h = record { holds = sym (take_all n s.now (omega arith)); same_block = refl; same_start = refl }
 
 -- what packing answers, as the dwords that are made of it
-packed_as : (m : Message) (p : Packed) → of_packed p ≡ pack_answer m → dwords_of (of_packed p).value ≡ dwords_of (pack m)
-packed_as m p e = ap (λ (a : Answer (ℕ × ℕ)). dwords_of a.value) e ∙ ap dwords_of (answers 14 (pack m))
+module _ (m : Message) (p : Result (ℕ × ℕ) Refusal) (e : of_packed p ≡ pack_answer m) where
+  packed_as : dwords_of (of_packed p).value ≡ dwords_of (pack m)
+  packed_as = ap (λ (a : Answer (ℕ × ℕ)). dwords_of a.value) e ∙ ap dwords_of (answers 14 (pack m))
 
-pub packed_none : (m : Message) (p : Packed) → of_packed p ≡ pack_answer m → p ≡ Unfit → zeros ≡ dwords_of (pack m)
-unfolding of_packed dwords_of
-packed_none m p e u = ap (λ q. dwords_of (of_packed q).value) (sym u) ∙ packed_as m p e
+  pub packed_none : (r : Refusal) → p ≡ Err r → zeros ≡ dwords_of (pack m)
+  unfolding of_packed dwords_of
+  packed_none r u = ap (λ q. dwords_of (of_packed q).value) (sym u) ∙ packed_as
 
-pub packed_some :
-    (m : Message) (p : Packed) (header word : ℕ) → of_packed p ≡ pack_answer m → p ≡ Dwords header word
-    → set (counting header 256) 1 word ≡ dwords_of (pack m)
-unfolding of_packed dwords_of
-packed_some m p header word e u = ap (λ q. dwords_of (of_packed q).value) (sym u) ∙ packed_as m p e
+  pub packed_some : (header word : ℕ) → p ≡ Ok (header, word) → set (counting header 256) 1 word ≡ dwords_of (pack m)
+  unfolding of_packed dwords_of
+  packed_some header word u = ap (λ q. dwords_of (of_packed q).value) (sym u) ∙ packed_as

@@ -1,11 +1,13 @@
--- A channel by value: what a call answers and leaves, read as the outcome that the channel's own definitions give.
-use Rattle.std.specs.Prelude.{◌≡◌, ℕ, List, [], replicate}
+-- A channel with both its sides: what a call answers and leaves, read as the outcome that the channel's own definitions
+-- give.
+use Rattle.std.specs.Prelude.{◌≡◌, ℕ, List, Result, replicate}
+use Rattle.refusal.specs.declared.Refusal.{Refusal}
+use Rattle.refusal.specs.Numbers.{number_of}
 use Rattle.channel.specs.State.{State, of_sender, of_receiver, idle_at}
-use Rattle.channel.specs.Outcome.{Outcome}
+use Rattle.channel.specs.Outcome.{Outcome, sent, stepped, received}
 use Rattle.channel.specs.Opening.{Opening}
 use Rattle.channel.specs.Operations.{Op, gives}
 use Rattle.stage.specs.declared.channels.Ctb.{Ctb}
-use Rattle.stage.specs.declared.channels.Done.{Done}
 
 -- what a channel is made of, its sides as states
 pub record Contents : Type 0 where
@@ -22,49 +24,37 @@ abbrev pub unopened_contents : Contents
 unopened_contents =
     record { desc = replicate 16 9; buf = replicate 1024 0; sender = idle_at 0 0; receiver = idle_at 0 0 }
 
--- what an opening answered, which has no length, and left
-abbrev pub opened_by : Done → Opening
-opened_by r =
+-- what an opening answered, and left
+abbrev pub opened_by : Result (Unit {0}) Refusal → Ctb → Opening
+opened_by r c =
     record {
-      code = r.code;
-      sender = of_sender r.ctb.sender;
-      receiver = of_receiver r.ctb.receiver;
-      desc = r.ctb.desc;
-      buf = r.ctb.buf;
+      code = number_of r;
+      sender = of_sender c.sender;
+      receiver = of_receiver c.receiver;
+      desc = c.desc;
+      buf = c.buf;
     }
 
--- what a call of the sender answered and left, and one of the receiver, with the output that it was lent (no dword
--- where none is)
-abbrev pub sent_by : Done → Outcome
-sent_by r =
-    record {
-      code = r.code;
-      len = r.len;
-      next = of_sender r.ctb.sender;
-      desc = r.ctb.desc;
-      buf = r.ctb.buf;
-      out = [];
-    }
+-- what a call of the sender answered and left, a step of the receiver, and a call of the receiver with the output that it
+-- was lent
+abbrev pub sent_by : Result (Unit {0}) Refusal → Ctb → Outcome
+sent_by r c = sent r c.sender c.desc c.buf
 
-abbrev pub received_by : Done → List ℕ → Outcome
-received_by r out =
-    record {
-      code = r.code;
-      len = r.len;
-      next = of_receiver r.ctb.receiver;
-      desc = r.ctb.desc;
-      buf = r.ctb.buf;
-      out = out;
-    }
+abbrev pub stepped_by : Result (Unit {0}) Refusal → Ctb → Outcome
+stepped_by r c = stepped r c.receiver c.desc c.buf
 
--- the sender's call gives what the operation does, and leaves the receiver; the receiver's the other way round
-pub record SenderDid (op : Op) (c : Ctb) (r : Done) : Type 0 where
-  pub does : sent_by r ≡ gives op (of_sender c.sender) c.desc c.buf
-  pub leaves : r.ctb.receiver ≡ c.receiver
+abbrev pub received_by : Result ℕ Refusal → Ctb → List ℕ → Outcome
+received_by r c out = received r c.receiver c.desc c.buf out
 
-pub record ReceiverDid (op : Op) (out : List ℕ) (c : Ctb) (r : Done) : Type 0 where
-  pub does : received_by r out ≡ gives op (of_receiver c.receiver) c.desc c.buf
-  pub leaves : r.ctb.sender ≡ c.sender
+-- the sender's call gave what the operation gives on the channel as it was, and left the receiver; the receiver's the
+-- other way round
+pub record SenderDid (op : Op) (gave : Outcome) (c after : Ctb) : Type 0 where
+  pub does : gave ≡ gives op (of_sender c.sender) c.desc c.buf
+  pub leaves : after.receiver ≡ c.receiver
+
+pub record ReceiverDid (op : Op) (gave : Outcome) (c after : Ctb) : Type 0 where
+  pub does : gave ≡ gives op (of_receiver c.receiver) c.desc c.buf
+  pub leaves : after.sender ≡ c.sender
 
 -- what somebody else writes: a word of the descriptor, a dword of the ring, another sender's state
 abbrev pub with_desc : List ℕ → Contents → Contents

@@ -8,7 +8,7 @@ counting first zero = []
 counting first (suc k) = first ∷ counting ((first + 1) % 2 ^ 32) k
 
 -- a slice that starts where what was lent starts, and holds these
-pub record FrontOf (s : Bor (List ℕ)) (held : List ℕ) (r : Bor (List ℕ)) : Type 0 where
+pub record FrontOf {T : Type 0} (s : Bor (List T)) (held : List T) (r : Bor (List T)) : Type 0 where
   pub holds : r.now ≡ held
   pub same_block : r.ref_ptr.0 ≡ s.ref_ptr.0
   pub same_start : r.ref_ptr.1 ≡ s.ref_ptr.1

@@ -1,230 +1,124 @@
-// A command transport buffer with the states of both sides, by value, and its calls.
-ghost use Rattle.std.specs.Prelude.{◌≡◌, ℕ, List, [], slice_set};
+// A command transport buffer with the states of both sides, and its calls.
+ghost use Rattle.std.specs.Prelude.{◌≡◌, slice_set};
 ghost use Rattle.channel.specs.State.{idle_at};
 ghost use Rattle.channel.specs.Opening.{opening};
-ghost use Rattle.channel.specs.Outcome.{sent, stepped, received};
 ghost use Rattle.channel.specs.Operations.{send_look, send_move, send_publish, send_whole};
 ghost use Rattle.channel.specs.Operations.{receive_look, receive_move, receive_publish, receive_whole};
-ghost use Rattle.stage.specs.Channels.{contents_of, unopened_contents, opened_by, sent_by, received_by, SenderDid, ReceiverDid};
-ghost use Rattle.stage.specs.Channels.{with_desc, with_buf, with_sender};
+ghost use Rattle.stage.specs.Channels.{contents_of, unopened_contents, opened_by, sent_by, stepped_by, received_by};
+ghost use Rattle.stage.specs.Channels.{SenderDid, ReceiverDid, with_desc, with_buf, with_sender};
 
-use channel::{Received, Receiver, Sender, Sent, Stepped};
+use crate::dwords::put;
+use channel::{Receiver, Sender};
+use message::MESSAGE_MAX;
+use refusal::Refusal;
+use ring::DESCRIPTOR_DWORDS;
 
 // A command transport buffer (CTB): descriptor, ring, and the states of both sides.
 #[derive(Clone, Copy)]
 pub struct Ctb {
-    pub desc: [u32; 16],
+    pub desc: [u32; DESCRIPTOR_DWORDS],
     pub buf: [u32; 1024],
     pub sender: Sender,
     pub receiver: Receiver,
 }
 
-// What a call answered, and the buffer as it left it. Only a receive answers a length.
-#[derive(Clone, Copy)]
-pub struct Done {
-    pub code: u32,
-    pub len: usize,
-    pub ctb: Ctb,
-}
-
-// A ring of zeros under a descriptor that has other words, which nobody has opened.
-pub fn unopened() -> Ctb
-    ensures { contents_of result ≡ unopened_contents }
-{
-    Ctb {
-        desc: [9u32; 16],
-        buf: [0u32; 1024],
-        sender: Sender::idle_at(0, 0),
-        receiver: Receiver::idle_at(0, 0),
+impl Ctb {
+    // A ring of zeros under a descriptor that has other words, which nobody has opened.
+    pub fn unopened() -> Self
+        ensures { contents_of result ≡ unopened_contents }
+    {
+        Ctb {
+            desc: [9; DESCRIPTOR_DWORDS],
+            buf: [0; 1024],
+            sender: Sender::idle_at(0, 0),
+            receiver: Receiver::idle_at(0, 0),
+        }
     }
-}
 
-// Opens it, whatever it was.
-pub fn open(c: Ctb) -> Done
-    ensures { (opened_by result ≡ opening c.desc c.buf) × (result.len ≡ 0) }
-{
-    let mut desc = c.desc;
-    let buf = c.buf;
-    let opened = channel::open_channel(&mut desc, &buf);
-    let sender = opened.sender;
-    let receiver = opened.receiver;
-    Done {
-        code: opened.code,
-        len: 0,
-        ctb: Ctb {
-            desc,
-            buf,
-            sender,
-            receiver,
-        },
+    // Opens it, whatever it was.
+    pub fn open(&mut self) -> Result<(), Refusal>
+        ensures { opened_by result self.new ≡ opening self.old.desc self.old.buf }
+    {
+        let opened = channel::open_channel(&mut self.desc, &self.buf);
+        self.sender = opened.sender;
+        self.receiver = opened.receiver;
+        opened.answer
     }
-}
 
-// As a call of the sender left it.
-pub fn after_send(c: Ctb, answer: Sent, desc: [u32; 16], buf: [u32; 1024]) -> Done
-    ensures { (sent_by result ≡ sent answer desc buf) × (result.ctb.receiver ≡ c.receiver) }
-{
-    let sender = answer.next;
-    let receiver = c.receiver;
-    Done {
-        code: answer.code,
-        len: 0,
-        ctb: Ctb {
-            desc,
-            buf,
-            sender,
-            receiver,
-        },
+    // A whole send.
+    pub fn send(&mut self, msg: &[u32]) -> Result<(), Refusal>
+        ensures { SenderDid (send_whole msg.now) (sent_by result self.new) self.old self.new }
+    {
+        self.sender.send(&mut self.desc, &mut self.buf, msg)
     }
-}
 
-// As a call of the receiver left it.
-pub fn after_receive(c: Ctb, got: Received, desc: [u32; 16]) -> Done
-    ensures { ((o : List ℕ) → received_by result o ≡ received got desc c.buf o) × (result.ctb.sender ≡ c.sender) }
-{
-    let buf = c.buf;
-    let sender = c.sender;
-    let receiver = got.next;
-    Done {
-        code: got.code,
-        len: got.len,
-        ctb: Ctb {
-            desc,
-            buf,
-            sender,
-            receiver,
-        },
+    // A send's look.
+    pub fn send_look(&mut self, msg: &[u32]) -> Result<(), Refusal>
+        ensures { SenderDid (send_look msg.now) (sent_by result self.new) self.old self.new }
+    {
+        self.sender.look(&mut self.desc, &self.buf, msg)
     }
-}
 
-// A step of a receive, which answers no length.
-pub fn no_length(s: Stepped) -> Received
-    ensures { (d b : List ℕ) → received result d b [] ≡ stepped s d b }
-{
-    let next = s.next;
-    Received {
-        code: s.code,
-        len: 0,
-        next,
+    // A send's store.
+    pub fn send_store(&mut self) -> Result<(), Refusal>
+        ensures { SenderDid send_move (sent_by result self.new) self.old self.new }
+    {
+        self.sender.store(&self.desc, &mut self.buf)
     }
-}
 
-// A whole send.
-pub fn send(c: Ctb, msg: &[u32]) -> Done
-    ensures { SenderDid (send_whole msg.now) c result }
-{
-    let s = c.sender;
-    let mut desc = c.desc;
-    let mut buf = c.buf;
-    let sent = s.send(&mut desc, &mut buf, msg);
-    after_send(c, sent, desc, buf)
-}
+    // A send's publish.
+    pub fn send_publish(&mut self) -> Result<(), Refusal>
+        ensures { SenderDid send_publish (sent_by result self.new) self.old self.new }
+    {
+        self.sender.publish(&mut self.desc, &self.buf)
+    }
 
-// A send's look.
-pub fn send_look(c: Ctb, msg: &[u32]) -> Done
-    ensures { SenderDid (send_look msg.now) c result }
-{
-    let s = c.sender;
-    let mut desc = c.desc;
-    let buf = c.buf;
-    let sent = s.look(&mut desc, &buf, msg);
-    after_send(c, sent, desc, buf)
-}
+    // A whole receive into this output.
+    pub fn receive(&mut self, out: &mut [u32; MESSAGE_MAX]) -> Result<usize, Refusal>
+        ensures { ReceiverDid (receive_whole out.old) (received_by result self.new out.new) self.old self.new }
+    {
+        self.receiver.receive(&mut self.desc, &self.buf, out)
+    }
 
-// A send's store.
-pub fn send_store(c: Ctb) -> Done
-    ensures { SenderDid send_move c result }
-{
-    let s = c.sender;
-    let desc = c.desc;
-    let mut buf = c.buf;
-    let sent = s.store(&desc, &mut buf);
-    after_send(c, sent, desc, buf)
-}
+    // A receive's look.
+    pub fn receive_look(&mut self) -> Result<(), Refusal>
+        ensures { ReceiverDid receive_look (stepped_by result self.new) self.old self.new }
+    {
+        self.receiver.look(&mut self.desc, &self.buf)
+    }
 
-// A send's publish.
-pub fn send_publish(c: Ctb) -> Done
-    ensures { SenderDid send_publish c result }
-{
-    let s = c.sender;
-    let mut desc = c.desc;
-    let buf = c.buf;
-    let sent = s.publish(&mut desc, &buf);
-    after_send(c, sent, desc, buf)
-}
+    // A receive's copy.
+    pub fn receive_copy(&mut self) -> Result<(), Refusal>
+        ensures { ReceiverDid receive_move (stepped_by result self.new) self.old self.new }
+    {
+        self.receiver.copy(&self.desc, &self.buf)
+    }
 
-// A whole receive into this output.
-pub fn receive(c: Ctb, out: &mut [u32; 256]) -> Done
-    ensures { ReceiverDid (receive_whole out.old) out.new c result }
-{
-    let r = c.receiver;
-    let mut desc = c.desc;
-    let buf = c.buf;
-    let got = r.receive(&mut desc, &buf, out);
-    after_receive(c, got, desc)
-}
+    // A receive's publish into this output.
+    pub fn receive_publish(&mut self, out: &mut [u32; MESSAGE_MAX]) -> Result<usize, Refusal>
+        ensures { ReceiverDid (receive_publish out.old) (received_by result self.new out.new) self.old self.new }
+    {
+        self.receiver.publish(&mut self.desc, &self.buf, out)
+    }
 
-// A receive's look.
-pub fn receive_look(c: Ctb) -> Done
-    ensures { ReceiverDid receive_look [] c result }
-{
-    let r = c.receiver;
-    let mut desc = c.desc;
-    let buf = c.buf;
-    let stepped = r.look(&mut desc, &buf);
-    after_receive(c, no_length(stepped), desc)
-}
+    // Somebody else writes a word of the descriptor.
+    pub fn write_word(&mut self, word: usize, value: u32)
+        ensures { contents_of self.new ≡ with_desc (slice_set self.old.desc word value) (contents_of self.old) }
+    {
+        put(&mut self.desc, word, value);
+    }
 
-// A receive's copy.
-pub fn receive_copy(c: Ctb) -> Done
-    ensures { ReceiverDid receive_move [] c result }
-{
-    let r = c.receiver;
-    let desc = c.desc;
-    let buf = c.buf;
-    let stepped = r.copy(&desc, &buf);
-    after_receive(c, no_length(stepped), desc)
-}
+    // Somebody else writes a dword of the ring.
+    pub fn write_dword(&mut self, place: usize, value: u32)
+        ensures { contents_of self.new ≡ with_buf (slice_set self.old.buf place value) (contents_of self.old) }
+    {
+        put(&mut self.buf, place, value);
+    }
 
-// A receive's publish into this output.
-pub fn receive_publish(c: Ctb, out: &mut [u32; 256]) -> Done
-    ensures { ReceiverDid (receive_publish out.old) out.new c result }
-{
-    let r = c.receiver;
-    let mut desc = c.desc;
-    let buf = c.buf;
-    let got = r.publish(&mut desc, &buf, out);
-    after_receive(c, got, desc)
-}
-
-// Somebody else writes a word of the descriptor.
-pub fn with_word(c: Ctb, word: usize, value: u32) -> Ctb
-    ensures { contents_of result ≡ with_desc (slice_set c.desc word value) (contents_of c) }
-{
-    let mut desc = c.desc;
-    ring::put(&mut desc, word, value);
-    let mut next = c;
-    next.desc = desc;
-    next
-}
-
-// Somebody else writes a dword of the ring.
-pub fn with_dword(c: Ctb, place: usize, value: u32) -> Ctb
-    ensures { contents_of result ≡ with_buf (slice_set c.buf place value) (contents_of c) }
-{
-    let mut buf = c.buf;
-    ring::put(&mut buf, place, value);
-    let mut next = c;
-    next.buf = buf;
-    next
-}
-
-// Another sender takes over, with this own tail.
-pub fn with_sender_at(c: Ctb, own: usize) -> Ctb
-    ensures { contents_of result ≡ with_sender (idle_at 1024 own) (contents_of c) }
-{
-    let sender = Sender::idle_at(1024, own);
-    let mut next = c;
-    next.sender = sender;
-    next
+    // Another sender takes over, with this own tail.
+    pub fn replace_sender(&mut self, own: usize)
+        ensures { contents_of self.new ≡ with_sender (idle_at 1024 own) (contents_of self.old) }
+    {
+        self.sender = Sender::idle_at(1024, own);
+    }
 }

@@ -1,37 +1,28 @@
-// Dwords filled, compared, and shown from one end.
-ghost use Rattle.std.specs.Prelude.{◌≡◌, true, length, take, drop};
+// Dwords and bytes: one stored, the front and the back of them, and dwords that count up.
+ghost use Rattle.std.specs.Prelude.{◌≡◌, length, take, drop, slice_set};
 ghost use Rattle.stage.specs.Dwords.{counting, FrontOf};
 
-// Whether the two hold the same dwords.
-pub(crate) fn same(a: &[u32], b: &[u32]) -> bool
-    ensures { (result ≡ true → a.now ≡ b.now) × (a.now ≡ b.now → result ≡ true) }
+// Stores a value at a place, where it lies among them.
+pub fn put<T: Copy>(s: &mut [T], at: usize, v: T)
+    ensures { s.new ≡ slice_set s.old at v }
 {
-    if a.len() != b.len() {
-        return false;
+    if at < s.len() {
+        s[at] = v;
     }
-    let mut i = 0;
-    while i < a.len() {
-        if a[i] != b[i] {
-            return false;
-        }
-        i += 1;
-    }
-    true
 }
 
-// The first len dwords, or all where there are fewer.
-pub(crate) fn front(s: &[u32], len: usize) -> &[u32]
+// The first len, or all where there are fewer.
+pub(crate) fn front<T>(s: &[T], len: usize) -> &[T]
     ensures { FrontOf s.entry (take len s.now) result }
 {
-    if len <= s.len() { &s[0..len] } else { s }
+    if len <= s.len() { &s[..len] } else { s }
 }
 
-// The dwords after the first count, none where there are fewer.
-pub(crate) fn back(s: &[u32], count: usize) -> &[u32]
+// Those after the first count, none where there are fewer.
+pub(crate) fn back<T>(s: &[T], count: usize) -> &[T]
     ensures { result.now ≡ drop count s.now }
 {
-    let end = s.len();
-    if count <= end { &s[count..] } else { &s[end..] }
+    s.get(count..).unwrap_or(&[])
 }
 
 // Fills the dwords with numbers that count up from first.
@@ -39,10 +30,8 @@ pub(crate) fn count_up(s: &mut [u32], first: u32)
     ensures { s.new ≡ counting first (length s.old) }
 {
     let mut next = first;
-    let mut i = 0;
-    while i < s.len() {
-        s[i] = next;
-        next = std::num::wrapping_add_u32(next, 1);
-        i += 1;
+    for dword in s.iter_mut() {
+        *dword = next;
+        next = next.wrapping_add(1);
     }
 }

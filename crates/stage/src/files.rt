@@ -4,6 +4,7 @@ ghost use Rattle.std.specs.Prelude.{◌≡◌, ◌%◌, ◌^◌, ◌≤◌, take
 ghost use Rattle.stage.specs.Dwords.{FrontOf};
 ghost use Rattle.stage.specs.Files;
 
+use crate::dwords::{front, put};
 use firmware::Sizes;
 
 // Room for any file of a scene; a line takes as many of its first bytes as it speaks of.
@@ -16,37 +17,21 @@ pub fn blank() -> Room
     [0u8; 4700]
 }
 
-// The first len bytes, or all where there are fewer.
-fn shortened(s: &[u8], len: usize) -> &[u8]
-    ensures { FrontOf s.entry (take len s.now) result }
-{
-    if len <= s.len() { &s[0..len] } else { s }
-}
-
 // The first len bytes of a blob.
 pub fn cut(blob: &Room, len: usize) -> &[u8]
     ensures { FrontOf blob.entry (take len blob.now) result }
 {
-    shortened(blob, len)
-}
-
-// Stores a byte.
-pub fn put_byte(s: &mut [u8], at: usize, v: u8)
-    ensures { s.new ≡ slice_set s.old at v }
-{
-    if at < s.len() {
-        s[at] = v;
-    }
+    front(blob, len)
 }
 
 // Stores four bytes in front.
 fn put_front(s: &mut [u8], a: u8, b: u8, c: u8, d: u8)
     ensures { s.new ≡ Files.four a b c d s.old }
 {
-    put_byte(s, 0, a);
-    put_byte(s, 1, b);
-    put_byte(s, 2, c);
-    put_byte(s, 3, d);
+    put(s, 0, a);
+    put(s, 1, b);
+    put(s, 2, c);
+    put(s, 3, d);
 }
 
 // Stores four bytes.
@@ -126,7 +111,7 @@ pub fn put_directory(s: &mut [u8], count: u32, header: u8)
 {
     put_dword(s, 0, 0x4450_4324);
     put_dword(s, 4, count);
-    put_byte(s, 10, header);
+    put(s, 10, header);
 }
 
 // An entry in front: its name, its offset as stored, and its length.

@@ -8,14 +8,10 @@ mod files;
 mod messages;
 mod walls;
 
-pub use channels::{
-    Ctb, Done, after_receive, after_send, no_length, open, receive, receive_copy, receive_look,
-    receive_publish, send, send_look, send_publish, send_store, unopened, with_dword,
-    with_sender_at, with_word,
-};
+pub use channels::Ctb;
+pub use dwords::put;
 pub use files::{
-    Room, blank, cut, huc_directory, image, put_byte, put_directory, put_dword, put_entry,
-    put_image,
+    Room, blank, cut, huc_directory, image, put_directory, put_dword, put_entry, put_image,
 };
 pub use messages::{as_due, fast_request, message_in, request, untouched};
 pub use walls::{Aged, Called, PLAYERS, REPLY_N, Wall, age_of, fresh_wall, wall_reply, wall_send};

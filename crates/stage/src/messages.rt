@@ -4,8 +4,8 @@ ghost use Rattle.message.specs.declared.Body.TheVariants.{Request, FastRequest};
 ghost use Rattle.stage.specs.Dwords.{FrontOf};
 ghost use Rattle.stage.specs.Messages.{untouched, host_message, message_in, AsDue};
 
-use crate::dwords::{back, count_up, front, same};
-use message::{Body, MESSAGE_MAX, Message, Origin, Packed};
+use crate::dwords::{back, count_up, front, put};
+use message::{Body, MESSAGE_MAX, Message, Origin};
 
 // An output that nothing has been laid in: its dwords count up.
 pub fn untouched() -> [u32; MESSAGE_MAX]
@@ -55,12 +55,9 @@ fn packed(fence: u32, num_dwords: u32, body: Body) -> [u32; MESSAGE_MAX]
         num_dwords,
         body,
     };
-    match message::pack(m) {
-        Packed::Unfit => (),
-        Packed::Dwords(header, word) => {
-            count_up(&mut dwords, header);
-            ring::put(&mut dwords, 1, word);
-        }
+    if let Ok((header, word)) = message::pack(m) {
+        count_up(&mut dwords, header);
+        put(&mut dwords, 1, word);
     }
     dwords
 }
@@ -78,7 +75,7 @@ fn laid_as_due(len: usize, out: &[u32; MESSAGE_MAX], due: &[u32; MESSAGE_MAX]) -
     ensures { (result ≡ true → take len out.now ≡ take len due.now)
         × (take len out.now ≡ take len due.now → result ≡ true) }
 {
-    same(front(out, len), front(due, len))
+    front(out, len) == front(due, len)
 }
 
 // Whether the others are untouched.
@@ -87,7 +84,7 @@ fn rest_untouched(len: usize, out: &[u32; MESSAGE_MAX]) -> bool
         × (drop len out.now ≡ drop len untouched → result ≡ true) }
 {
     let before = untouched();
-    same(back(out, len), back(&before, len))
+    back(out, len) == back(&before, len)
 }
 
 // Whether an output has the first len dwords of the message that was due and is otherwise untouched, and len is 0 or

@@ -1,5 +1,5 @@
-// A wall of six players, by value: a table of six records and the wall's two words. A scene passes it from call to call. The
-// channel that a request goes through is lent.
+// A wall of six players, by value: a table of six records and the wall's two words. A scene passes it from call to call.
+// The channel that a request goes through is lent.
 ghost use Rattle.std.specs.Prelude.{◌≡◌};
 ghost use Rattle.side.specs.Words.{state_of};
 ghost use Rattle.requests.specs.Fence.{age};

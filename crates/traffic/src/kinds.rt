@@ -1,113 +1,153 @@
-// What a message is, in numbers: its type, its fence and its fields, or what is malformed in it.
-use message::{Body, Unpacked, dword_at};
+// What a message is: its type and its fields, or what is malformed in it.
+ghost use Rattle.std.specs.Prelude.{◌<◌};
 
-// The types, by the number that a message has for each; 4, which no type has, is a malformed message.
-pub(crate) const REQUEST: u32 = message::TYPE_REQUEST;
+use message::{Body, dword_at};
+use std::fmt;
 
-pub(crate) const EVENT: u32 = message::TYPE_EVENT;
+// The types, and what no type has: a malformed message.
+#[derive(Clone, Copy, Debug, PartialEq, Eq)]
+pub(crate) enum Kind {
+    Request,
+    Event,
+    Fast,
+    Busy,
+    Malformed,
+    Retry,
+    Failure,
+    Success,
+}
 
-pub(crate) const FAST: u32 = message::TYPE_FAST_REQUEST;
+// How many they are.
+pub(crate) const KINDS: usize = 8;
 
-pub(crate) const BUSY: u32 = message::TYPE_BUSY;
+impl Kind {
+    const ALL: [Kind; KINDS] = [
+        Kind::Request,
+        Kind::Event,
+        Kind::Fast,
+        Kind::Busy,
+        Kind::Malformed,
+        Kind::Retry,
+        Kind::Failure,
+        Kind::Success,
+    ];
 
-pub(crate) const MALFORMED: u32 = 4;
+    // Its place among all.
+    pub(crate) fn index(self) -> usize
+        ensures { result < 8 }
+    {
+        self as usize
+    }
 
-pub(crate) const RETRY: u32 = message::TYPE_RETRY;
+    pub(crate) fn name(self) -> &'static str {
+        match self {
+            Kind::Request => "request",
+            Kind::Event => "event",
+            Kind::Fast => "fast",
+            Kind::Busy => "busy",
+            Kind::Malformed => "malformed",
+            Kind::Retry => "retry",
+            Kind::Failure => "failure",
+            Kind::Success => "success",
+        }
+    }
 
-pub(crate) const FAILURE: u32 = message::TYPE_FAILURE;
+    // The kind that a word names.
+    pub(crate) fn named(word: &[u8]) -> Option<Kind> {
+        Kind::ALL
+            .into_iter()
+            .find(|kind| kind.name().as_bytes() == word)
+    }
+}
 
-pub(crate) const SUCCESS: u32 = message::TYPE_SUCCESS;
+// What is malformed in a message whose header agrees with its length.
+#[derive(Clone, Copy, Debug, PartialEq, Eq)]
+pub(crate) enum Wrong {
+    NoSecondDword,
+    Format,
+    Reserved,
+    UnknownType,
+}
 
-// No type: what no word names, and what a filter has that asks for none.
-pub(crate) const NO_KIND: u32 = 8;
+impl Wrong {
+    // By the header; where nothing is wrong in it, it is the type.
+    fn of(header: u32) -> Wrong {
+        if header % 0x100 == 0 {
+            Wrong::NoSecondDword
+        } else if header / 0x1000 % 0x10 != 0 {
+            Wrong::Format
+        } else if header / 0x100 % 0x10 != 0 {
+            Wrong::Reserved
+        } else {
+            Wrong::UnknownType
+        }
+    }
+}
 
-// What is malformed, where the type says so: the lines of the words for it.
-const NO_SECOND: u32 = 0;
+impl fmt::Display for Wrong {
+    fn fmt<W: fmt::Write>(&self, f: &mut fmt::Formatter<W>) -> fmt::Result {
+        f.write_str(match self {
+            Wrong::NoSecondDword => "(no second dword)",
+            Wrong::Format => "(format is not 0)",
+            Wrong::Reserved => "(reserved is not 0)",
+            Wrong::UnknownType => "(unknown type 4)",
+        })
+    }
+}
 
-const FORMAT: u32 = 1;
-
-const RESERVED: u32 = 2;
-
-const UNKNOWN_TYPE: u32 = 3;
-
-// `first` is an action, a counter, a reason, an error or data; `second` the data beside an action, the hint beside an
-// error. Of a malformed message `first` is what is wrong.
+// A message's fence, and what it carries or what is wrong.
 #[derive(Clone, Copy)]
 pub(crate) struct Meaning {
-    pub kind: u32,
     pub fence: u32,
-    pub first: u32,
-    pub second: u32,
+    pub body: Result<Body, Wrong>,
 }
 
-fn of(kind: u32, fence: u32, first: u32, second: u32) -> Meaning {
-    Meaning {
-        kind,
-        fence,
-        first,
-        second,
-    }
-}
-
-fn of_body(fence: u32, body: Body) -> Meaning {
-    match body {
-        Body::Request { data, action } => of(REQUEST, fence, action, data),
-        Body::Event { data, action } => of(EVENT, fence, action, data),
-        Body::FastRequest { data, action } => of(FAST, fence, action, data),
-        Body::Busy { counter } => of(BUSY, fence, counter, 0),
-        Body::Retry { reason } => of(RETRY, fence, reason, 0),
-        Body::Failure { hint, error } => of(FAILURE, fence, error, hint),
-        Body::Success { data } => of(SUCCESS, fence, data, 0),
-    }
-}
-
-// What is wrong with a header of a malformed message; where nothing is, it is the type.
-fn wrong_in(header: u32) -> u32 {
-    if header % 0x100 == 0 {
-        NO_SECOND
-    } else if header / 0x1000 % 0x10 != 0 {
-        FORMAT
-    } else if header / 0x100 % 0x10 != 0 {
-        RESERVED
-    } else {
-        UNKNOWN_TYPE
-    }
-}
-
-// A message of a record, whose header agrees with its length.
-pub(crate) fn meaning_of(msg: &[u32]) -> Meaning {
-    let unpacked = message::unpack(msg);
-    match unpacked {
-        Unpacked::Malformed => {
-            let header = dword_at(msg, 0);
-            of(MALFORMED, header / 0x1_0000, wrong_in(header), 0)
+impl Meaning {
+    // That of a message of a record.
+    pub(crate) fn of(msg: &[u32]) -> Meaning {
+        match message::unpack(msg) {
+            Ok(m) => Meaning {
+                fence: m.fence,
+                body: Ok(m.body),
+            },
+            Err(_) => {
+                let header = dword_at(msg, 0);
+                Meaning {
+                    fence: header >> 16,
+                    body: Err(Wrong::of(header)),
+                }
+            }
         }
-        Unpacked::Decoded(m) => {
-            let body = m.body;
-            of_body(m.fence, body)
+    }
+
+    pub(crate) fn kind(self) -> Kind {
+        match self.body {
+            Ok(Body::Request { .. }) => Kind::Request,
+            Ok(Body::Event { .. }) => Kind::Event,
+            Ok(Body::FastRequest { .. }) => Kind::Fast,
+            Ok(Body::Busy { .. }) => Kind::Busy,
+            Ok(Body::Retry { .. }) => Kind::Retry,
+            Ok(Body::Failure { .. }) => Kind::Failure,
+            Ok(Body::Success { .. }) => Kind::Success,
+            Err(_) => Kind::Malformed,
         }
     }
 }
 
-// The type that a word names.
-pub(crate) fn named(word: &[u8]) -> u32 {
-    if say::equal(word, b"request") {
-        REQUEST
-    } else if say::equal(word, b"event") {
-        EVENT
-    } else if say::equal(word, b"fast") {
-        FAST
-    } else if say::equal(word, b"busy") {
-        BUSY
-    } else if say::equal(word, b"malformed") {
-        MALFORMED
-    } else if say::equal(word, b"retry") {
-        RETRY
-    } else if say::equal(word, b"failure") {
-        FAILURE
-    } else if say::equal(word, b"success") {
-        SUCCESS
-    } else {
-        NO_KIND
+// The fields in words, or what is malformed.
+impl fmt::Display for Meaning {
+    fn fmt<W: fmt::Write>(&self, f: &mut fmt::Formatter<W>) -> fmt::Result {
+        match self.body {
+            Ok(
+                Body::Request { data, action }
+                | Body::Event { data, action }
+                | Body::FastRequest { data, action },
+            ) => write!(f, "action 0x{action:04x} data {data}"),
+            Ok(Body::Busy { counter }) => write!(f, "counter {counter}"),
+            Ok(Body::Retry { reason }) => write!(f, "reason {reason}"),
+            Ok(Body::Failure { hint, error }) => write!(f, "error 0x{error:04x} hint {hint}"),
+            Ok(Body::Success { data }) => write!(f, "data {data}"),
+            Err(wrong) => write!(f, "{wrong}"),
+        }
     }
 }

@@ -6,176 +6,144 @@ mod counting;
 mod kinds;
 mod lines;
 mod options;
-mod page;
 mod pieces;
 mod progress;
 mod run;
 mod totals;
 
-use counting::Totals;
-use options::Options;
-use pieces::Place;
+use counting::Counting;
+use options::Asked;
+use pieces::{End, Pieces};
+use run::Messages;
+use say::{Quoted, Reason};
 use std::io;
 use std::io::{ErrorKind, Read, Seek};
+use std::ops::Range;
 use std::rt::{Env, Files};
-use totals::{DAMAGED, NOT_READ, Tally, WHOLE};
+use totals::{Class, Tally, Totals};
 
-// What became of a file: how it ended, and its totals as far as it was read.
-#[derive(Clone, Copy)]
-struct Outcome {
-    class: u32,
-    totals: Totals,
-}
-
-// The messages of a piece, as a run: writes their lines, where lines are asked for, and answers the totals with them.
-fn with_piece(
+// The messages of a piece, as a run: writes their lines, where lines are asked for, and counts them.
+fn with_run(
     rt: &(impl Print + AllocGlobal),
-    waiting: &mut [u32],
+    counting: &mut Counting,
     run: &[u32],
-    o: Options,
-    t: Totals,
-) -> io::Result<Totals> {
-    if !o.totals {
-        lines::show_run(rt, rt.alloc(), run, t.messages(), o.filter)?;
+    o: Asked,
+) -> io::Result<()> {
+    if !o.totals_only {
+        lines::show_run(rt, rt.alloc(), run, counting.totals.messages(), o.filter)?;
     }
-    Ok(counting::with_run(waiting, run, t))
+    for m in Messages(run) {
+        counting.add(m);
+    }
+    Ok(())
 }
 
 // How the file ended, in a line of its own where it is not whole.
-fn ended(rt: &impl Print, p: Place) -> io::Result<u32> {
-    if p.fault != 0 {
-        say::one(rt, b"DAMAGED at byte %: ", p.bad)?;
-        say::fault(rt, p.fault)?;
-        say::end(rt)?;
-        return Ok(DAMAGED);
+fn ended(rt: &impl Print, pieces: &Pieces, end: End) -> io::Result<Class> {
+    match end {
+        End::Whole => Ok(Class::Whole),
+        End::Unread(error) => {
+            let front = pieces.front();
+            println!(rt; "NOT READ from byte {front} on: {}", Reason(error))?;
+            Ok(Class::NotRead)
+        }
+        End::Damaged { fault, at } => {
+            println!(rt; "DAMAGED at byte {at}: {fault}")?;
+            Ok(Class::Damaged)
+        }
     }
-    if let Some(error) = p.error {
-        say::one(rt, b"NOT READ from byte % on: ", p.front)?;
-        say::reason(rt, error)?;
-        return Ok(NOT_READ);
-    }
-    Ok(WHOLE)
 }
 
-// Goes through an open file, in the room lent. A proved loop has to end, and nothing says that a file does: the loop
-// has more turns than any run uses up.
+// Goes through an open file, and answers how it ended, and its totals as far as it was read. A proved loop has to end,
+// and nothing says that a file does: the loop has more turns than any run uses up.
 fn through(
     rt: &(impl Print + Eprint + AllocGlobal),
     file: &mut (impl Read + Seek),
-    piece: &mut [u8],
-    out: &mut [u32],
-    waiting: &mut [u32],
-    o: Options,
-) -> io::Result<Outcome> {
+    o: Asked,
+) -> io::Result<(Class, Totals)> {
     let size = if o.progress { progress::size(file) } else { 0 };
-    let mut p = pieces::start();
-    let mut t = counting::none();
+    let mut pieces = Pieces::new(rt.alloc())?;
+    let mut counting = Counting::new(rt.alloc())?;
+    let mut end = None;
     for _ in 0..u64::MAX {
-        if p.done {
+        if end.is_some() {
             break;
         }
-        let before = p.front;
-        p = pieces::next(file, piece, out, p);
-        t = with_piece(rt, waiting, run::front(out, p.written), o, t)?;
+        let before = pieces.front();
+        end = pieces.read_on(file);
+        with_run(rt, &mut counting, pieces.run(), o)?;
         if o.progress {
-            progress::say_at(rt, before, p.front, size);
+            progress::say_at(rt, before, pieces.front(), size);
         }
     }
     if o.progress {
-        progress::take_away(rt, p.front);
+        progress::take_away(rt, pieces.front());
     }
-    Ok(Outcome {
-        class: ended(rt, p)?,
-        totals: t,
-    })
+    let class = ended(rt, &pieces, end.unwrap_or(End::Whole))?;
+    Ok((class, counting.totals))
 }
 
-// An open file, with room of its own.
+// An open file, and its totals in words.
 fn opened(
     rt: &(impl Print + Eprint + AllocGlobal),
     file: &mut (impl Read + Seek),
-    o: Options,
-) -> io::Result<Outcome> {
-    let mut piece = pieces::piece(rt.alloc())?;
-    let mut out = pieces::room(rt.alloc())?;
-    let mut waiting = counting::none_open(rt.alloc())?;
-    let r = through(
-        rt,
-        file,
-        piece.as_mut_slice(),
-        out.as_mut_slice(),
-        waiting.as_mut_slice(),
-        o,
-    )?;
-    totals::print(rt, r.totals)?;
-    Ok(r)
+    o: Asked,
+) -> io::Result<(Class, Totals)> {
+    let (class, totals) = through(rt, file, o)?;
+    println!(rt; "{totals}")?;
+    Ok((class, totals))
 }
 
 // A file that cannot be opened, by the system's error.
-fn unread(rt: &impl Print, error: ErrorKind) -> io::Result<Outcome> {
-    say::text(rt, b"NOT READ: ")?;
-    say::reason(rt, error)?;
-    Ok(Outcome {
-        class: NOT_READ,
-        totals: counting::none(),
-    })
+fn unread(rt: &impl Print, error: ErrorKind) -> io::Result<(Class, Totals)> {
+    println!(rt; "NOT READ: {}", Reason(error))?;
+    Ok((Class::NotRead, Totals::default()))
 }
 
-// The file that argument i names, behind its name.
+// The file that word i names, behind its name.
 fn file(
     rt: &(impl Print + Eprint + Files + Env + AllocGlobal),
     i: usize,
-    o: Options,
-) -> io::Result<Outcome> {
+    o: Asked,
+) -> io::Result<(Class, Totals)> {
     let mut room = say::room();
     let Some(name) = say::whole_word(rt, i, &mut room) else {
         return unread(rt, ErrorKind::InvalidFilename);
     };
-    say::quoted(rt, name)?;
-    say::end(rt)?;
+    println!(rt; "{}", Quoted(name))?;
     match say::open(rt, i, name) {
         Ok(mut file) => opened(rt, &mut file, o),
         Err(e) => unread(rt, e.kind()),
     }
 }
 
-// The totals over several files.
-fn print_all(rt: &impl Print, o: Options, all: Totals) -> io::Result<()> {
-    if o.several {
-        say::text(rt, b"All files\n")?;
-        totals::print(rt, all)?;
-        say::end(rt)?;
-    }
-    Ok(())
-}
-
-// Every file, from the argument behind the options on.
-fn files(
+// Every file, and where they are several the totals over all.
+fn all(
     rt: &(impl Print + Eprint + Files + Env + AllocGlobal),
-    o: Options,
-    count: usize,
+    files: Range<usize>,
+    o: Asked,
 ) -> io::Result<Tally> {
-    let mut all = counting::none();
-    let mut tally = totals::no_file();
-    for i in o.at..count {
-        let r = file(rt, i, o)?;
-        all = counting::sums(all, r.totals);
-        tally = tally.with(r.class);
-        say::end(rt)?;
+    let several = 1 < files.len();
+    let mut sums = Totals::default();
+    let mut tally = Tally::default();
+    for i in files {
+        let (class, totals) = file(rt, i, o)?;
+        sums.add(&totals);
+        tally.add(class);
+        println!(rt; "")?;
     }
-    print_all(rt, o, all)?;
+    if several {
+        println!(rt; "All files\n{sums}\n")?;
+    }
     Ok(tally)
 }
 
 fn main(rt: HostRuntime) -> io::Result<()> {
-    let o = options::read(&rt);
-    if o.wrong {
-        say::complaint(
-            &rt,
-            "usage: traffic [--fence F] [--type NAME] [--totals] FILE..\n",
-        );
-        return say::text(&rt, b"traffic: wrong usage\n");
+    match options::read(&rt) {
+        Ok((files, asked)) => println!(rt; "{}", all(&rt, files, asked)?),
+        Err(_) => {
+            let _ = eprintln!(rt; "usage: traffic [--fence F] [--type NAME] [--totals] FILE..");
+            println!(rt; "traffic: wrong usage")
+        }
     }
-    let tally = files(&rt, o, say::word_count(&rt))?;
-    totals::last_line(&rt, tally)
 }

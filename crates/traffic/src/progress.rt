@@ -28,6 +28,6 @@ pub(crate) fn say_at(rt: &impl Eprint, before: u64, now: u64, size: u64) {
 // Takes the line away, where there is one.
 pub(crate) fn take_away(rt: &impl Eprint, now: u64) {
     if MIB <= now {
-        say::complaint(rt, "\r                                                  \r");
+        let _ = rt.eprint("\r                                                  \r");
     }
 }

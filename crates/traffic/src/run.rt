@@ -1,34 +1,39 @@
 // A run of dwords, as the library lays it: each message behind its direction and its L.
-ghost use Rattle.std.specs.Prelude.{◌<◌, ◌≤◌, length};
+ghost use Rattle.std.specs.Prelude.{length};
+ghost use Rattle.std.specs.Iterator.{at_most};
 
-use message::dword_at;
+use record::Direction;
 
-// Where the dwords of a message lie in a run.
-#[derive(Clone, Copy)]
-pub(crate) struct Span {
-    pub from: usize,
-    pub to: usize,
-}
-
-// Those of the message whose direction stands at a place; the library lays no message that is not whole.
-pub(crate) fn message_at(run: &[u32], at: usize) -> Span
-    requires { at < length run.now }
-    ensures from_le_to { result.from ≤ result.to }
-    ensures at_lt_to { at < result.to }
-    ensures to_in_bounds { result.to ≤ length run.now }
-{
-    let end = run.len();
-    let len = dword_at(run, at + 1) as usize;
-    if end - at < 2 + len {
-        return Span { from: end, to: end };
-    }
-    Span {
-        from: at + 2,
-        to: at + 2 + len,
+// The other way.
+pub(crate) fn other(way: Direction) -> Direction {
+    match way {
+        Direction::Sent => Direction::Received,
+        Direction::Received => Direction::Sent,
     }
 }
 
-// The first dwords of a run, as many as were laid.
-pub(crate) fn front(out: &[u32], n: usize) -> &[u32] {
-    if n <= out.len() { &out[0..n] } else { out }
+// A message, and which way it went.
+#[derive(Clone, Copy, Debug, PartialEq, Eq)]
+pub(crate) struct Recorded<'a> {
+    pub direction: Direction,
+    pub dwords: &'a [u32],
+}
+
+// The messages of a run, one after the other. The library lays none that is not whole.
+#[derive(Drop)]
+pub(crate) struct Messages<'a>(pub &'a [u32]);
+
+impl<'a> Iterator for Messages<'a> {
+    type Item = Recorded<'a>;
+
+    ghost remaining = { λ m. at_most (length m.0.now) };
+
+    fn next(&mut self) -> Option<Recorded<'a>> {
+        let (way, behind) = self.0.split_first()?;
+        let (len, behind) = behind.split_first()?;
+        let (dwords, behind) = behind.split_at_checked(*len as usize)?;
+        let direction = Direction::try_from(*way).ok()?;
+        self.0 = behind;
+        Some(Recorded { direction, dwords })
+    }
 }

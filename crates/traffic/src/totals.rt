@@ -1,118 +1,168 @@
-// Totals in words, and the last line.
-use crate::counting::Totals;
-use crate::kinds;
-use say::count;
-use std::io;
+// What a record has in all, in words, and how its files ended.
+use crate::kinds::{KINDS, Kind};
+use crate::run::Recorded;
+use record::Direction;
+use std::fmt;
 
-// How many are of one type.
-fn by_kind(t: Totals, kind: u32) -> u64 {
-    let k = t.kinds;
-    k[(kind % 8) as usize]
+// The messages that went one way, and their dwords.
+#[derive(Clone, Copy, Debug, Default, PartialEq, Eq)]
+pub(crate) struct Way {
+    messages: u64,
+    dwords: u64,
 }
 
-// Messages and dwords each way.
-fn each_way(rt: &impl Print, t: Totals) -> io::Result<()> {
-    count(rt, t.messages(), b"% message: ", b"% messages: ")?;
-    say::one(rt, b"% sent (", t.sent)?;
-    count(rt, t.sent_dwords, b"% dword), ", b"% dwords), ")?;
-    say::one(rt, b"% received (", t.received)?;
-    count(rt, t.received_dwords, b"% dword)\n", b"% dwords)\n")
+// Messages and dwords each way, messages by type, requests that a reply closed, replies that no request has. Counts of
+// what a file has do not wrap.
+#[derive(Clone, Copy, Debug, Default, PartialEq, Eq)]
+pub(crate) struct Totals {
+    sent: Way,
+    received: Way,
+    kinds: [u64; KINDS],
+    closed: u64,
+    stray: u64,
 }
 
-// Messages by type: what asks, then what replies.
-fn by_type(rt: &impl Print, t: Totals) -> io::Result<()> {
-    count(
-        rt,
-        by_kind(t, kinds::REQUEST),
-        b"% request, ",
-        b"% requests, ",
-    )?;
-    count(
-        rt,
-        by_kind(t, kinds::FAST),
-        b"% fast request, ",
-        b"% fast requests, ",
-    )?;
-    count(rt, by_kind(t, kinds::EVENT), b"% event, ", b"% events, ")?;
-    say::one(rt, b"% malformed\n", by_kind(t, kinds::MALFORMED))?;
-    say::four(
-        rt,
-        b"% success, % failure, % retry, % busy\n",
-        by_kind(t, kinds::SUCCESS),
-        by_kind(t, kinds::FAILURE),
-        by_kind(t, kinds::RETRY),
-        by_kind(t, kinds::BUSY),
-    )
+// Adds to a count.
+fn add(count: &mut u64, more: u64) {
+    *count = count.wrapping_add(more);
 }
 
-// All of it, four lines.
-pub(crate) fn print(rt: &impl Print, t: Totals) -> io::Result<()> {
-    each_way(rt, t)?;
-    by_type(rt, t)?;
-    count(
-        rt,
-        t.unanswered(),
-        b"% request without a reply; ",
-        b"% requests without a reply; ",
-    )?;
-    count(
-        rt,
-        t.stray,
-        b"% reply without a request\n",
-        b"% replies without a request\n",
-    )
-}
-
-// The files by how they ended.
-#[derive(Clone, Copy)]
-pub(crate) struct Tally {
-    pub whole: u64,
-    pub damaged: u64,
-    pub unread: u64,
-}
-
-// How a file ended.
-pub(crate) const WHOLE: u32 = 0;
-
-pub(crate) const DAMAGED: u32 = 1;
-
-pub(crate) const NOT_READ: u32 = 2;
-
-// None yet.
-pub(crate) fn no_file() -> Tally {
-    Tally {
-        whole: 0,
-        damaged: 0,
-        unread: 0,
+impl Way {
+    fn add(&mut self, other: Way) {
+        add(&mut self.messages, other.messages);
+        add(&mut self.dwords, other.dwords);
     }
 }
 
-// One more; a count of arguments does not wrap.
-fn more(n: u64) -> u64 {
-    n.wrapping_add(1)
+impl Totals {
+    // A message more, of that type.
+    pub(crate) fn count(&mut self, m: Recorded<'_>, kind: Kind) {
+        let one = Way {
+            messages: 1,
+            dwords: m.dwords.len() as u64,
+        };
+        match m.direction {
+            Direction::Sent => self.sent.add(one),
+            Direction::Received => self.received.add(one),
+        }
+        add(&mut self.kinds[kind.index()], 1);
+    }
+
+    // A reply more that closed a request, or that none had.
+    pub(crate) fn count_closed(&mut self) {
+        add(&mut self.closed, 1);
+    }
+
+    pub(crate) fn count_stray(&mut self) {
+        add(&mut self.stray, 1);
+    }
+
+    // All of another file more.
+    pub(crate) fn add(&mut self, other: &Totals) {
+        self.sent.add(other.sent);
+        self.received.add(other.received);
+        add(&mut self.closed, other.closed);
+        add(&mut self.stray, other.stray);
+        for (count, more) in self.kinds.iter_mut().zip(other.kinds) {
+            add(count, more);
+        }
+    }
+
+    pub(crate) fn messages(&self) -> u64 {
+        self.sent.messages.wrapping_add(self.received.messages)
+    }
+
+    fn of(&self, kind: Kind) -> u64 {
+        self.kinds[kind.index()]
+    }
+}
+
+// So many of something: what one is called, and any other number of them.
+#[derive(Clone, Copy)]
+struct Counted(u64, &'static str, &'static str);
+
+impl fmt::Display for Counted {
+    fn fmt<W: fmt::Write>(&self, f: &mut fmt::Formatter<W>) -> fmt::Result {
+        let Counted(n, one, many) = *self;
+        let name = if n == 1 { one } else { many };
+        write!(f, "{n} {name}")
+    }
+}
+
+// The dwords of one way.
+fn dwords(way: Way) -> Counted {
+    Counted(way.dwords, "dword", "dwords")
+}
+
+// Four lines: messages and dwords each way; messages by type, what asks, then what replies; and what belongs together.
+impl fmt::Display for Totals {
+    fn fmt<W: fmt::Write>(&self, f: &mut fmt::Formatter<W>) -> fmt::Result {
+        let all = Counted(self.messages(), "message", "messages");
+        let Totals { sent, received, .. } = *self;
+        write!(f, "{all}: {} sent ({}), ", sent.messages, dwords(sent))?;
+        writeln!(f, "{} received ({})", received.messages, dwords(received))?;
+
+        let requests = Counted(self.of(Kind::Request), "request", "requests");
+        let fast = Counted(self.of(Kind::Fast), "fast request", "fast requests");
+        let events = Counted(self.of(Kind::Event), "event", "events");
+        let malformed = self.of(Kind::Malformed);
+        writeln!(f, "{requests}, {fast}, {events}, {malformed} malformed")?;
+        let success = self.of(Kind::Success);
+        let failure = self.of(Kind::Failure);
+        let retry = self.of(Kind::Retry);
+        let busy = self.of(Kind::Busy);
+        writeln!(
+            f,
+            "{success} success, {failure} failure, {retry} retry, {busy} busy"
+        )?;
+
+        let open = self.of(Kind::Request).wrapping_sub(self.closed);
+        let open = Counted(open, "request", "requests");
+        let stray = Counted(self.stray, "reply", "replies");
+        write!(f, "{open} without a reply; {stray} without a request")
+    }
+}
+
+// How a file ended.
+#[derive(Clone, Copy, Debug, PartialEq, Eq)]
+pub(crate) enum Class {
+    Whole,
+    Damaged,
+    NotRead,
+}
+
+// The files by how they ended.
+#[derive(Clone, Copy, Debug, Default, PartialEq, Eq)]
+pub(crate) struct Tally {
+    whole: u64,
+    damaged: u64,
+    not_read: u64,
 }
 
 impl Tally {
-    // With a file that ended so.
-    pub(crate) fn with(self, class: u32) -> Tally {
-        let mut next = self;
-        match class {
-            WHOLE => next.whole = more(self.whole),
-            DAMAGED => next.damaged = more(self.damaged),
-            _ => next.unread = more(self.unread),
-        }
-        next
+    pub(crate) fn add(&mut self, class: Class) {
+        add(
+            match class {
+                Class::Whole => &mut self.whole,
+                Class::Damaged => &mut self.damaged,
+                Class::NotRead => &mut self.not_read,
+            },
+            1,
+        );
     }
 }
 
 // The last line, which the script takes its exit status from.
-pub(crate) fn last_line(rt: &impl Print, t: Tally) -> io::Result<()> {
-    say::four(
-        rt,
-        b"traffic: % whole, % damaged, % not read\n",
-        t.whole,
-        t.damaged,
-        t.unread,
-        0,
-    )
+impl fmt::Display for Tally {
+    fn fmt<W: fmt::Write>(&self, f: &mut fmt::Formatter<W>) -> fmt::Result {
+        let Tally {
+            whole,
+            damaged,
+            not_read,
+        } = *self;
+        write!(
+            f,
+            "traffic: {whole} whole, {damaged} damaged, {not_read} not read"
+        )
+    }
 }

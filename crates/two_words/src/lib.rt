@@ -1,17 +1,21 @@
 // Sides that make whole calls only, in two words each, which are lent to the call and changed in place: between its
 // calls such a side is idle, so that there is no copy to keep and no zeros to test. Held to the same definitions as the
-// states by value.
+// states by value. `side` has the same three calls on 260 words: what they share is `ring`'s whole calls and
+// `channel::open_needs`; one trait over both kinds of words would say more than the few lines that are left.
 #![tactic(auto)]
 
 ghost use Rattle.std.specs.Prelude.{◌≡◌, [], length};
+ghost use Rattle.refusal.specs.Numbers.{number_of};
+ghost use Rattle.ring.specs.AtOnce.{len_of};
 ghost use Rattle.channel.specs.State.{idle, idle_at};
 ghost use Rattle.channel.specs.Opening.{opening};
 ghost use Rattle.channel.specs.Send;
 ghost use Rattle.channel.specs.Receive;
 ghost use Rattle.two_words.specs.TwoWords.{idle_of, in_two_words, opened_two_words};
 
-use channel::{Laid, clear, open_number};
-use ring::{refusal, wide};
+use channel::open_needs;
+use refusal::Refusal;
+use ring::wide;
 
 // The words of such a side, and which of them holds its N and its own offset.
 pub const WORDS: usize = 2;
@@ -60,50 +64,57 @@ pub fn open(
     receiver: &mut [u32; WORDS],
     desc: &mut [u32],
     buf: &[u32],
-) -> u32
-    ensures { opened_two_words result sender.new receiver.new desc.new buf.now
+) -> Result<(), Refusal>
+    ensures { opened_two_words (number_of result) sender.new receiver.new desc.new buf.now
         ≡ opening desc.old buf.now }
 {
-    let code = open_number(desc.len(), buf.len());
-    if code != 0 {
+    if let Err(reason) = open_needs(desc.len(), buf.len()) {
         make(&mut sender[..], 0);
         make(&mut receiver[..], 0);
-        return code;
+        return Err(reason);
     }
     let n = buf.len() as u32;
-    clear(desc);
+    desc.fill(0);
     make(&mut sender[..], n);
     make(&mut receiver[..], n);
-    0
+    Ok(())
 }
 
 // A whole send. The own tail moves where the message was sent.
-pub fn send(w: &mut [u32; WORDS], desc: &mut [u32], buf: &mut [u32], msg: &[u32]) -> u32
-    ensures { in_two_words result 0 w.new desc.new buf.new []
+pub fn send(
+    w: &mut [u32; WORDS],
+    desc: &mut [u32],
+    buf: &mut [u32],
+    msg: &[u32],
+) -> Result<(), Refusal>
+    ensures { in_two_words (number_of result) 0 w.new desc.new buf.new []
         ≡ Send.whole (idle_of w.old) msg.now desc.old buf.old }
 {
     let s = numbers_of(&w[..]);
     let fits = fits_buffer(buf.len(), s);
-    let end = ring::whole_send(fits, s.own, desc, buf, msg);
-    if end.code == 0 {
-        w[OWN] = end.own as u32;
-    }
-    end.code
+    let tail = ring::whole_send(fits, s.own, desc, buf, msg)?;
+    w[OWN] = tail as u32;
+    Ok(())
 }
 
 // A whole receive. The own head moves past a message that was laid or passed over.
-pub fn receive(w: &mut [u32; WORDS], desc: &mut [u32], buf: &[u32], out: &mut [u32]) -> Laid
-    ensures { in_two_words result.code result.len w.new desc.new buf.now out.new
+pub fn receive(
+    w: &mut [u32; WORDS],
+    desc: &mut [u32],
+    buf: &[u32],
+    out: &mut [u32],
+) -> Result<usize, Refusal>
+    ensures { in_two_words (number_of result) (len_of result) w.new desc.new buf.now out.new
         ≡ Receive.whole (idle_of w.old) out.old desc.old buf.now }
 {
     let s = numbers_of(&w[..]);
     let fits = fits_buffer(buf.len(), s);
     let end = ring::whole_receive(fits, s.own, desc, buf, out);
-    if (end.code == 0) | (end.code == refusal::MALFORMED) {
-        w[OWN] = end.own as u32;
-    }
-    Laid {
-        code: end.code,
-        len: end.len,
+    match end.answer {
+        Ok(_) | Err(Refusal::Malformed) => {
+            w[OWN] = end.own as u32;
+            end.answer
+        }
+        Err(reason) => Err(reason),
     }
 }

@@ -29,7 +29,8 @@ pub(crate) fn send_planned(
         return p;
     }
     let header = message::with_fence(p.last, ask.header);
-    let code = side::send_as(sender, &mut desc[..], buf, header, ask.word, msg);
+    let sent = side::send_as(sender, &mut desc[..], buf, header, ask.word, msg);
+    let code = refusal::number_of(&sent);
     if code != 0 {
         return requests::refuse(code, n, p.was);
     }

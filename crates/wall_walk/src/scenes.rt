@@ -4,16 +4,12 @@ use crate::calls::{
 };
 use crate::site::{Site, fresh};
 use requests::Record;
-use say::text;
 use stage::Wall;
 use std::io;
 
 // Three requests, answered last first, and two replies that belong to none.
 pub(crate) fn out_of_order(rt: &impl Print) -> io::Result<()> {
-    text(
-        rt,
-        b"\nReplies out of order, and two that belong to no request\n",
-    )?;
+    println!(rt; "\nReplies out of order, and two that belong to no request")?;
     let s = send(rt, fresh(), 501, 2)?;
     let s = send(rt, s, 502, 2)?;
     let s = send(rt, s, 503, 2)?;
@@ -27,7 +23,7 @@ pub(crate) fn out_of_order(rt: &impl Print) -> io::Result<()> {
 
 // A player that is busy three times, and one that is told to try again.
 pub(crate) fn busy_and_retry(rt: &impl Print) -> io::Result<()> {
-    text(rt, b"\nBusy three times, and one told to try again\n")?;
+    println!(rt; "\nBusy three times, and one told to try again")?;
     let s = send(rt, fresh(), 501, 8)?;
     let s = send(rt, s, 502, 2)?;
     let s = busy(rt, s, 0)?;
@@ -50,7 +46,7 @@ fn four_more(rt: &impl Print, s: Site) -> io::Result<Site> {
 
 // A request that nobody answers while others come and go: its age shows it.
 pub(crate) fn left_behind(rt: &impl Print) -> io::Result<()> {
-    text(rt, b"\nOne request stays open, and grows old\n")?;
+    println!(rt; "\nOne request stays open, and grows old")?;
     let s = send(rt, fresh(), 501, 2)?;
     age(rt, &s, 0)?;
     let s = four_more(rt, s)?;
@@ -60,13 +56,10 @@ pub(crate) fn left_behind(rt: &impl Print) -> io::Result<()> {
 
 // A wall that has given out 65,534: the next fences are 65,535 and 0, and 1 is still open.
 pub(crate) fn around_the_end(rt: &impl Print) -> io::Result<()> {
-    text(
-        rt,
-        b"\nAfter fence 65535 comes 0; a fence that is still open is skipped\n",
-    )?;
+    println!(rt; "\nAfter fence 65535 comes 0; a fence that is still open is skipped")?;
     let started = send(rt, send(rt, fresh(), 500, 2)?, 501, 2)?;
     let late = success(rt, started, 0)?;
-    text(rt, b"Much later, when the last fence given out is 65534:\n")?;
+    println!(rt; "Much later, when the last fence given out is 65534:")?;
     let wall = Wall {
         table: late.wall.table,
         words: [65534, stage::REPLY_N],
@@ -81,10 +74,7 @@ pub(crate) fn around_the_end(rt: &impl Print) -> io::Result<()> {
 
 // Answers of 256, 256, 256 and 255 dwords fill a reply buffer of 1,024: the next request waits for a reply.
 pub(crate) fn want_of_room(rt: &impl Print) -> io::Result<()> {
-    text(
-        rt,
-        b"\nNo room for one more answer, until a reply has come\n",
-    )?;
+    println!(rt; "\nNo room for one more answer, until a reply has come")?;
     let s = send(rt, send(rt, fresh(), 501, 256)?, 502, 256)?;
     let s = send(rt, send(rt, s, 503, 256)?, 504, 255)?;
     let s = send(rt, s, 505, 1)?;
@@ -97,10 +87,7 @@ pub(crate) fn want_of_room(rt: &impl Print) -> io::Result<()> {
 
 // A table that is full, and one that something else has written to.
 pub(crate) fn spoilt(rt: &impl Print) -> io::Result<()> {
-    text(
-        rt,
-        b"\nA full table, and one in which a fence is open twice\n",
-    )?;
+    println!(rt; "\nA full table, and one in which a fence is open twice")?;
     let s = send(rt, send(rt, send(rt, fresh(), 501, 2)?, 502, 2)?, 503, 2)?;
     let s = send(rt, send(rt, send(rt, s, 504, 2)?, 505, 2)?, 506, 2)?;
     let s = send(rt, s, 507, 2)?;
@@ -140,16 +127,16 @@ fn broken(s: &Site) -> Site {
 
 // What the wall refuses, and what the ring does: nothing is sent, and the next request has the fence that was due.
 pub(crate) fn turned_away(rt: &impl Print) -> io::Result<()> {
-    text(rt, b"\nTurned away by the wall, and by the ring\n")?;
+    println!(rt; "\nTurned away by the wall, and by the ring")?;
     let s = send(rt, fresh(), 501, 2)?;
-    text(rt, b"Over a reply buffer of 1000 dwords:\n")?;
+    println!(rt; "Over a reply buffer of 1000 dwords:")?;
     send(rt, over(&s, 1000), 502, 2)?;
-    text(rt, b"Over the wall's own, of 1024:\n")?;
+    println!(rt; "Over the wall's own, of 1024:")?;
     let s = send(rt, s, 502, 257)?;
     let s = send_fast(rt, s, 502, 2)?;
-    text(rt, b"With STATUS 8:\n")?;
+    println!(rt; "With STATUS 8:")?;
     send(rt, broken(&s), 502, 2)?;
-    text(rt, b"With STATUS 0 again:\n")?;
+    println!(rt; "With STATUS 0 again:")?;
     let s = send(rt, s, 502, 2)?;
     table(rt, &s)
 }

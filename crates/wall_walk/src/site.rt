@@ -17,7 +17,7 @@ pub(crate) fn fresh() -> Site {
     let mut receiver = [0; STATE_WORDS];
     let mut desc = [0; DESCRIPTOR_DWORDS];
     let buf = [0; 1024];
-    side::open_channel(&mut sender, &mut receiver, &mut desc, &buf);
+    let _ = side::open_channel(&mut sender, &mut receiver, &mut desc, &buf);
     Site {
         wall: stage::fresh_wall(),
         sender,

@@ -9,17 +9,13 @@ use Rattle.delivery.proofs.loopback.Goals as goal
 
 pub returns : goal.returns
 returns c =
-    let received = c in
-    let lent = received in
-    let sent = lent in
-    let opened = sent in
-    let a = opened.args in
+    let a = c.args in
     let d = a.desc.now in
     let b = a.buf.now in
     let m = a.msg.now in
     let o = a.out.now in
-    let start = opened.open_channel-start.ensures in
-    let e = loop_calls d b m o _ _ _ _ _ _ _ _ start sent.send-sent.ensures received.receive-received.ensures in
+    let start = c.open_channel-start.ensures in
+    let e = loop_calls d b m o _ _ _ _ _ _ _ _ _ _ start c.send-sent.ensures c.receive-received.ensures in
     record {
       out_after = e;
       comes_back =

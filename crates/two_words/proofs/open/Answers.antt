@@ -1,29 +1,23 @@
 -- `open` meets its contract. Assumes nothing.
-use mathlib.Core.Path.{sym, ◌∙◌}
+use mathlib.Core.Path.{sym}
 use native.Mathlib.Omega.{arith}
-use borrow.Author.Tests.{ne_eqb}
+use Rattle.refusal.proofs.NotZero.{number-not-0}
 use Rattle.channel.specs.Opening.{open_by}
 use Rattle.channel.proofs.Going.{open_sixteen, open_high}
 use Rattle.two_words.proofs.open.Goals as goal
 
-pub returns-then-code-ne0 : goal.returns-then-code-ne0
+pub returns-in-Err : goal.returns-in-Err
 unfolding open_by
-returns-then-code-ne0 c =
-    let after-make = c in
-    let refused = after-make in
-    let number = refused.open_number-code.ensures in
-    simp (← number, ne_eqb _ _ refused.if-code-ne0.true, after-make.make.ensures, c.make-then-code-ne0.ensures)
+returns-in-Err c =
+    rw (← c.in-Err.ensures, number-not-0 c.in-Err.reason) (simp (c.make.ensures, c.make-in-Err.ensures))
 
 pub overflow_cast-n : goal.overflow_cast-n
-overflow_cast-n c = omega (arith, open_high _ _ (sym c.open_number-code.ensures ∙ c.if-code-ne0.false))
+overflow_cast-n c = omega (arith, open_high _ _ (sym c.in_default.ensures))
 
 pub returns : goal.returns
 unfolding open_by
 returns c =
-    let after-make = c in
-    let after-clear = after-make in
-    let opens-on = after-clear in
-    let e = sym opens-on.open_number-code.ensures ∙ opens-on.if-code-ne0.false in
+    let e = sym c.in_default.ensures in
     let sixteen = open_sixteen _ _ e in
     let opens = rw sixteen at e in
-    simp (after-clear.clear.ensures, sixteen, opens, after-make.make-2.ensures, c.make-3.ensures)
+    simp (c.fill.ensures.after (λ y e. e), sixteen, opens, c.make-2.ensures, c.make-3.ensures)

@@ -1,35 +1,34 @@
--- `send` meets its contract: its two words say whether it fits, and an accepted call moves its own
--- offset. Assumes nothing.
+-- `send` meets its contract: its two words say whether it fits, and an accepted call moves its own offset. Assumes
+-- nothing.
 use native.Mathlib.Omega.{arith}
 use borrow.Author.Rules.{rules}
-use borrow.Author.Tests.{ne_eqb}
 use Rattle.two_words.specs.TwoWords.{idle_of}
 use Rattle.two_words.proofs.Laws.{own-moved}
-use Rattle.channel.proofs.Wholes.{WholeSent, whole_sent}
+use Rattle.channel.proofs.Wholes.{WholeSent, send_refused, whole_sent}
 use Rattle.two_words.proofs.send.Goals as goal
-use Rattle.two_words.proofs.send.Goals.{After-whole_send-end}
+use Rattle.two_words.proofs.send.Goals.{In_ok-tail}
 
 -- what the send at once says of the side in its words
 said :
-    (q : After-whole_send-end)
+    (q : In_ok-tail)
     → let a = q.args in
-    let l = q.whole_send-end.new in
-    WholeSent (idle_of a.w.now) a.msg.now a.desc.now a.buf.now
-    q.whole_send-end.result l.desc l.buf
+    let l = q.whole_send.new in
+    WholeSent (idle_of a.w.now) a.msg.now a.desc.now a.buf.now q.in_ok-tail.tail l.desc l.buf
 unfolding idle_of
 said q =
-    let after-fits = q in
-    let numbers = after-fits.numbers_of-s.ensures in
-    whole_sent _ _ _ _ _ _ _ (rw (after-fits.fits_buffer-fits.ensures, numbers.0, numbers.1) at q.whole_send-end.ensures)
+    let numbers = q.numbers_of-s.ensures in
+    whole_sent _ _ _ _ _ _ _ (rw (q.fits_buffer-fits.ensures, numbers.0, numbers.1) at q.in_ok-tail.ensures)
+
+pub returns-in_err-tail : goal.returns-in_err-tail
+unfolding idle_of
+returns-in_err-tail c =
+    let numbers = c.numbers_of-s.ensures in
+    let e = rw (c.fits_buffer-fits.ensures, numbers.0, numbers.1) at c.in_err-tail.ensures in
+    search (rules, send_refused (idle_of c.args.w.now) _ _ _ _ _ _ e)
 
 pub overflow_cast-w : goal.overflow_cast-w
-overflow_cast-w c = omega (arith, (said (goal.at.overflow_cast-w c).After-whole_send-end).own-fits c.if-end-eq0.true)
+overflow_cast-w c = omega (arith, (said (goal.at.overflow_cast-w c).In_ok-tail).own-fits)
 
-pub returns-then-end-eq0 : goal.returns-then-end-eq0
-returns-then-end-eq0 c =
-    let q = c in
-    let w = q.args.w.now in
-    (said (goal.at.returns-then-end-eq0 q).After-whole_send-end).own-moves c.if-end-eq0.true _ (own-moved q.whole_send-end.result.own w (search rules))
-
-pub returns-else-end-eq0 : goal.returns-else-end-eq0
-returns-else-end-eq0 c = (said (goal.at.returns-else-end-eq0 c).After-whole_send-end).state-stays (ne_eqb _ _ c.if-end-eq0.false)
+pub returns : goal.returns
+returns c =
+    (said (goal.at.returns c).In_ok-tail).own-moves _ (own-moved c.in_ok-tail.tail c.args.w.now (search rules))

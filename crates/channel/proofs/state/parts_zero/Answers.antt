@@ -12,29 +12,10 @@ pub loop-k-init : goal.loop-k-init
 unfolding all_zero
 loop-k-init c = (omega arith, refl, refl, refl, refl)
 
-pub pair_at-a-requires : goal.pair_at-a-requires
-pair_at-a-requires c = omega arith
-
-pub pair_at-b-requires : goal.pair_at-b-requires
-pair_at-b-requires c = omega arith
-
-pub pair_at-c-requires : goal.pair_at-c-requires
-pair_at-c-requires c = omega arith
-
-pub pair_at-d-requires : goal.pair_at-d-requires
-pair_at-d-requires c = omega arith
-
-pub overflow_add-k : goal.overflow_add-k
-overflow_add-k c = omega arith
-
-pub loop-k-smaller : goal.loop-k-smaller
-loop-k-smaller c = omega arith
-
 pub loop-k-preserved : goal.loop-k-preserved
 loop-k-preserved c =
-    let at-loop = c in
-    let l = at-loop.loop-k in
-    let a = at-loop.args in (
+    let l = c.loop-k in
+    let a = c.args in (
       omega arith,
       rw c.pair_at-a.ensures (pair_more l.a a.p.now l.k (omega arith) l.invariant.1),
       rw c.pair_at-b.ensures (pair_more l.b a.q.now l.k (omega arith) l.invariant.2),

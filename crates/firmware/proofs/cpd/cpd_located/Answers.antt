@@ -1,49 +1,42 @@
 -- `cpd::cpd_located` meets its contract: two walks, the second from behind the entry that the first has found. Assumes
 -- nothing.
-use mathlib.Core.Path.{refl, sym, ◌∙◌}
-use lib.Dec.{ltb}
-use borrow.Author.Tests.{ltb-false, ltb-true, not-false}
-use native.Mathlib.Omega.{arith}
-use Rattle.firmware.specs.Cpd
+use mathlib.Core.Path.{◌≡◌, refl, ◌∙◌}
+use Rattle.std.proofs.lemmas.Option.{MatchOption-at_none, MatchOption-at_some}
+use Rattle.std.proofs.lemmas.Result.{err_from_is_err_and}
+use Rattle.refusal.specs.declared.Refusal.TheVariants.{NoEntry}
+use Rattle.refusal.proofs.NotZero.{number-not-0}
 use Rattle.firmware.proofs.Lies.{table-room}
-use Rattle.firmware.proofs.Tests.{cases}
-use Rattle.firmware.proofs.Read.{named-once-at-most, named-twice, walk_ends}
+use Rattle.firmware.proofs.Read.{name-own, named-none, named-so, no_name}
 use Rattle.firmware.proofs.cpd.cpd_located.Goals as goal
 
-pub returns-then-not-is_name : goal.returns-then-not-is_name
-unfolding Cpd.number Cpd.part
-returns-then-not-is_name c =
-    let at_key = c in
-    let n = at_key.args.name.now in
-    simp (← c.is_name.ensures n refl at_key.key_of-key.ensures, c.if-not-is_name.true-raw) c.refused.ensures
+pub returns-in_err-key : goal.returns-in_err-key
+returns-in_err-key c =
+    let p = err_from_is_err_and c.from_residual.result c.from_residual.ensures.1 in
+    rw (p.1, p.2, c.in_err-key.ensures.1) (no_name _ _ c.in_err-key.ensures.0)
 
-pub walk-i-requires : goal.walk-i-requires
-walk-i-requires c = table-room _ c.read_table-t.ensures
+pub returns-in_err-t : goal.returns-in_err-t
+returns-in_err-t c =
+    let p = err_from_is_err_and c.from_residual-in_err-t.result c.from_residual-in_err-t.ensures.1 in
+    rw (p.1, p.2) (name-own _ _ c.in_err-t.ensures c.in_ok-key.ensures.0 (number-not-0 _))
 
-pub overflow_add-behind : goal.overflow_add-behind
-overflow_add-behind c =
-    let l = table-room _ c.read_table-t.ensures in
-    omega (arith, walk_ends _ _ _ _ c.walk-i.ensures)
+pub found-requires : goal.found-requires
+found-requires c = table-room _ c.in_ok-t.ensures
 
-pub walk-next-requires : goal.walk-next-requires
-walk-next-requires c = table-room _ c.read_table-t.ensures
+pub returns-in_err-i : goal.returns-in_err-i
+returns-in_err-i c =
+    let p = err_from_is_err_and c.from_residual-in_err-i.result c.from_residual-in_err-i.ensures.1 in
+    let none = c.in_err-i.ensures.ok_part in
+    let reason : c.in_err-i.field-0.0 ≡ NoEntry = cc (rw none at c.in_err-i.ensures.value) in
+    let key = c.in_ok-key.ensures in
+    rw (p.1, p.2, reason)
+    (named-none _ _ _ key.0 key.1 c.in_ok-t.ensures refl refl (MatchOption-at_none _ _ none c.found.ensures))
+
+pub found-next-requires : goal.found-next-requires
+found-next-requires c = table-room _ c.in_ok-t.ensures
 
 pub returns : goal.returns
 returns c =
-    let at_next = c in
-    let at_table = at_next in
-    let at_key = at_table in
-    let n = at_key.args.name.now in
-    let k = at_key.key_of-key.ensures in
-    let named = sym (at_table.is_name.ensures n refl k) ∙ not-false _ at_table.if-not-is_name.false-raw in
-    let t = at_table.read_table-t.result in
-    let twice =
-    named-twice _ n _ k named at_table.read_table-t.ensures at_next.walk-i.ensures
-    at_next.walk-next.ensures in
-    let once =
-    named-once-at-most _ n _ k named at_table.read_table-t.ensures at_next.walk-i.ensures
-    at_next.walk-next.ensures in
-    let next = at_next.walk-next.result in
-    cases (ltb next t.count)
-    (λ u. rw u at c.entry_located.ensures ∙ twice (ltb-true next t.count u))
-    (λ u. rw u at c.entry_located.ensures ∙ once (ltb-false next t.count u))
+    let first = MatchOption-at_some _ _ _ c.in_ok-i.ensures.ok_part c.found.ensures in
+    let key = c.in_ok-key.ensures in
+    let named = named-so _ _ _ key.0 key.1 c.in_ok-t.ensures refl first.0 first.1 _ c.found-next.ensures in
+    c.entry_located.ensures ∙ rw c.is_some.ensures named

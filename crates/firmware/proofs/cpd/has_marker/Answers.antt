@@ -1,8 +1,7 @@
 -- `cpd::has_marker` meets its contract. Assumes nothing.
-use Rattle.firmware.specs.Cpd
-use borrow.Author.Rules.{rules}
+use mathlib.Core.Path.{◌∙◌}
+use Rattle.firmware.proofs.Names.{marker}
 use Rattle.firmware.proofs.cpd.has_marker.Goals as goal
 
 pub returns : goal.returns
-unfolding Cpd.has_marker
-returns c = search rules
+returns c = c.starts_with.ensures.value ∙ marker c.args.blob.now

@@ -10,7 +10,7 @@ pub returns-then-not-agree : goal.returns-then-not-agree
 returns-then-not-agree c b l s =
     let at_agree = c in
     let a = sym at_agree.agree.ensures ∙ not-true _ c.if-not-agree.true-raw in
-    c.refused.ensures ∙ sym (sizes_disagree b _ _ l s at_agree.requires.0 _ a)
+    sym (sizes_disagree b _ _ l s at_agree.requires.0 _ a)
 
 pub overflow_sub-rsa : goal.overflow_sub-rsa
 overflow_sub-rsa c =
@@ -22,7 +22,7 @@ pub returns-then-n-modulus : goal.returns-then-n-modulus
 returns-then-n-modulus c b l s =
     let at_agree = c in
     let a = sym at_agree.agree.ensures ∙ not-false _ c.if-not-agree.false-raw in
-    c.refused-then-n-modulus.ensures ∙ sym (too_short b _ _ l s at_agree.requires.0 a _ c.if-n-modulus.true)
+    sym (too_short b _ _ l s at_agree.requires.0 a _ c.if-n-modulus.true)
 
 pub component_located-requires-2 : goal.component_located-requires-2
 component_located-requires-2 c =

@@ -7,6 +7,6 @@ pub returns-then-there-needed : goal.returns-then-there-needed
 unfolding measured
 returns-then-there-needed c = simp (lt-ltb _ _ c.if-there-needed.true)
 
-pub returns : goal.returns
+pub returns-else-there-needed : goal.returns-else-there-needed
 unfolding measured
-returns c = simp (le-ltb _ _ c.if-there-needed.false)
+returns-else-there-needed c = simp (le-ltb _ _ c.if-there-needed.false)

@@ -1,25 +1,33 @@
 -- `name::key_of` meets its contract. Assumes nothing.
-use mathlib.Core.Path.{◌∙◌}
-use native.Mathlib.Omega.{arith}
-use borrow.Author.Count.{below_more}
-use lib.ListN.{length-set}
-use lib.Seq.{get_or-set_same, get_or-set_other}
+use mathlib.Core.Path.{refl, ◌∙◌}
+use borrow.Author.Tests.{le-leb, lt-leb}
+use Rattle.firmware.specs.Cpd
+use Rattle.firmware.proofs.Names.{sought-key}
+use borrow.Author.Rules.{rules}
 use Rattle.firmware.proofs.name.key_of.Goals as goal
+use Rattle.firmware.proofs.name.key_of.Goals.{then-n-lt1-via-then-n-lt1, then-n-lt1-via-else-n-lt1+then-n-gt-NAME_BYTES}
 
-pub loop-j-init : goal.loop-j-init
-loop-j-init c = (omega arith, omega arith, λ k l. absurd (omega arith))
+pub returns-then-n-lt1 : goal.returns-then-n-lt1
+unfolding Cpd.is_name
+returns-then-n-lt1 c =
+    elim c.then-n-lt1.branch [
+      | then-n-lt1-via-then-n-lt1 w ↦ (simp (lt-leb _ _ w.if-n-lt1.true), refl)
+      | then-n-lt1-via-else-n-lt1+then-n-gt-NAME_BYTES w ↦
+          (simp (le-leb _ _ w.if-n-lt1.false, lt-leb _ _ w.if-n-gt-NAME_BYTES.true), refl)
+    ]
 
-pub loop-j-preserved : goal.loop-j-preserved
-loop-j-preserved c =
-    let at-loop = c in
-    let key = at-loop.loop-j.key in
-    let j = at-loop.loop-j.j in (
-      omega arith,
-      simp length-set at-loop.loop-j.invariant.1,
-      below_more _ j
-          (λ k l. get_or-set_other key j k c.byte_at.result 0 (λ e. absurd (omega arith)) ∙ at-loop.loop-j.invariant.2 k l)
-          (get_or-set_same key j c.byte_at.result 0 (omega arith) ∙ c.byte_at.ensures),
+pub returns-then-not-has_no_zero : goal.returns-then-not-has_no_zero
+returns-then-not-has_no_zero c =
+    let z = c.has_no_zero.ensures in (
+      sought-key _ _ _ c.padded-key.ensures (search rules) z.0 z.1 c.if-n-lt1.false c.if-n-gt-NAME_BYTES.false
+          ∙ c.if-not-has_no_zero.true,
+      refl,
     )
 
 pub returns : goal.returns
-returns c j l = c.loop-j.invariant.2 j (omega arith)
+returns c =
+    let z = c.has_no_zero.ensures in (
+      sought-key _ _ _ c.padded-key.ensures (search rules) z.0 z.1 c.if-n-lt1.false c.if-n-gt-NAME_BYTES.false
+          ∙ c.if-not-has_no_zero.false,
+      c.padded-key.ensures,
+    )

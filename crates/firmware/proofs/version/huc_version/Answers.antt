@@ -1,25 +1,23 @@
 -- `version::huc_version` meets its contract. Assumes nothing.
-use borrow.Author.Tests.{eq-eqb, ne_eqb}
-use native.Mathlib.Omega.{arith}
+use Rattle.std.proofs.lemmas.Result.{err_from_is_err_and}
+use Rattle.refusal.proofs.NotZero.{number-not-0}
 use Rattle.firmware.specs.Inside.{huc_number}
-use Rattle.firmware.specs.Version.{of_version, huc_reading, css_reading, reading}
+use Rattle.firmware.specs.Version.{css_reading, huc_reading, of_version, reading}
 use Rattle.firmware.proofs.Lies.{cpd_lies, located-code, located-ends}
 use Rattle.firmware.proofs.Inner.{found-bytes}
 use Rattle.firmware.proofs.version.huc_version.Goals as goal
 
-pub returns-then-code-ne0 : goal.returns-then-code-ne0
-unfolding huc_reading huc_number reading of_version
-returns-then-code-ne0 c = simp (located-code _ _ _ c.cpd_located-f.ensures, ne_eqb _ _ c.if-code-ne0.true)
+pub returns-in_err-f : goal.returns-in_err-f
+unfolding huc_reading huc_number of_version reading
+returns-in_err-f c =
+    let p = err_from_is_err_and c.from_residual.result c.from_residual.ensures.1 in
+    rw (p.1, p.2) (simp (located-code _ _ _ c.in_err-f.ensures, number-not-0))
 
-pub overflow_add-end : goal.overflow_add-end
-overflow_add-end c = let l = located-ends _ _ (cpd_lies _ _) _ _ c.cpd_located-f.ensures in omega arith
-
-pub slice_bounds-css_version-end : goal.slice_bounds-css_version-end
-slice_bounds-css_version-end c = located-ends _ _ (cpd_lies _ _) _ _ c.cpd_located-f.ensures
+pub part_of-requires : goal.part_of-requires
+part_of-requires c = located-ends _ _ (cpd_lies _ _) _ _ c.in_ok-f.ensures
 
 pub returns : goal.returns
 unfolding huc_reading huc_number css_reading
 returns c =
-    let found = c.cpd_located-f.ensures in
-    simp (located-code _ _ _ found, eq-eqb _ _ c.if-code-ne0.false)
-    (rw (found-bytes _ _ found) at c.css_version.ensures)
+    let found = c.in_ok-f.ensures in
+    simp (located-code _ _ _ found) (rw (c.part_of.ensures.same_bytes, found-bytes _ _ found) at c.css_version.ensures)

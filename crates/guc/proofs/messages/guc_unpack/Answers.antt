@@ -4,10 +4,10 @@ use Rattle.message.specs.Packing.{of_unpacked}
 use Rattle.guc.specs.Messages.{unpacked_by}
 use Rattle.guc.proofs.messages.guc_unpack.Goals as goal
 
-pub returns-in-Malformed : goal.returns-in-Malformed
+pub returns-in-Err : goal.returns-in-Err
 unfolding unpacked_by of_unpacked Option-elim
-returns-in-Malformed c = rw (← c.unpack.ensures, c.in-Malformed.is)
+returns-in-Err c = rw (← c.unpack.ensures, c.in-Err.is, c.number.ensures)
 
-pub returns-in-Decoded : goal.returns-in-Decoded
+pub returns-in-Ok : goal.returns-in-Ok
 unfolding unpacked_by of_unpacked Option-elim
-returns-in-Decoded c = rw (← c.unpack.ensures, c.in-Decoded.is) c.decoded.ensures
+returns-in-Ok c = rw (← c.unpack.ensures, c.in-Ok.is) c.decoded.ensures

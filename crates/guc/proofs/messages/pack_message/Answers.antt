@@ -4,10 +4,10 @@ use Rattle.message.specs.Packing.{of_packed}
 use Rattle.guc.specs.Messages.{packed_by}
 use Rattle.guc.proofs.messages.pack_message.Goals as goal
 
-pub returns-in-Unfit : goal.returns-in-Unfit
+pub returns-in-Err : goal.returns-in-Err
 unfolding packed_by of_packed Option-elim
-returns-in-Unfit c = rw (← c.pack.ensures, c.in-Unfit.is)
+returns-in-Err c = rw (← c.pack.ensures, c.in-Err.is, ← c.number.ensures) c.not_packed.ensures
 
-pub returns-in-Dwords : goal.returns-in-Dwords
+pub returns-in-Ok : goal.returns-in-Ok
 unfolding packed_by of_packed Option-elim
-returns-in-Dwords c = rw (← c.pack.ensures, c.in-Dwords.is)
+returns-in-Ok c = rw (← c.pack.ensures, c.in-Ok.is)

@@ -2,4 +2,4 @@
 use Rattle.guc.proofs.messages.packed_as.Goals as goal
 
 pub returns : goal.returns
-returns c = rw c.origin_of.ensures at c.pack_message.ensures
+returns c = rw c.of.ensures at c.pack_message.ensures

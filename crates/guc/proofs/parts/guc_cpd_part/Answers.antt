@@ -4,4 +4,4 @@ use Rattle.guc.proofs.parts.guc_cpd_part.Goals as goal
 
 pub returns : goal.returns
 unfolding cpd_part
-returns c = rw c.cpd_located-l.ensures at c.as_part.ensures
+returns c = rw c.cpd_located.ensures at c.from.ensures

@@ -1,15 +1,12 @@
 -- `parts::guc_huc_part` meets its contract. Assumes nothing.
 use mathlib.Core.Option.{Option-elim}
-use Rattle.guc.specs.Parts.{huc_part, of_which}
+use Rattle.guc.specs.Parts.{huc_part}
 use Rattle.guc.proofs.parts.guc_huc_part.Goals as goal
 
 pub returns-in-None : goal.returns-in-None
-unfolding huc_part of_which Option-elim
-returns-in-None c = rw (← c.component.ensures, c.in-None.is)
+unfolding huc_part Option-elim
+returns-in-None c = rw c.in-None.ensures c.refused.ensures
 
-pub returns-in-One : goal.returns-in-One
-unfolding huc_part of_which Option-elim
-returns-in-One c =
-    let picked = c in
-    rw (← picked.component.ensures, picked.in-One.is)
-    (rw c.huc_located-l.ensures at c.as_part.ensures)
+pub returns-in-Some : goal.returns-in-Some
+unfolding huc_part Option-elim
+returns-in-Some c = rw c.in-Some.ensures (rw c.huc_located.ensures at c.from.ensures)

@@ -1,12 +1,8 @@
--- `header::known_type` meets its contract, type by type: the test is what the table of types says. Assumes nothing.
-use Rattle.message.specs.Types.{type_of, bodies_from, bodies, of_type, body_of, some_body, known}
-use Rattle.message.proofs.Types.{by_type}
+-- `header::known_type` meets its contract: a type is found exactly where one is known. Assumes nothing.
+use mathlib.Core.Path.{sym, ◌∙◌}
+use Rattle.message.proofs.Types.{known-found}
 use Rattle.message.proofs.header.known_type.Goals as goal
 
 pub returns : goal.returns
-unfolding known body_of bodies_from bodies of_type type_of some_body
 returns c =
-    let t = c.hxg_type-t.ensures in
-    by_type c.args.word
-    (λ e. simp (t, e)) (λ e. simp (t, e)) (λ e. simp (t, e)) (λ e. simp (t, e))
-    (λ e. simp (t, e)) (λ e. simp (t, e)) (λ e. simp (t, e)) (λ e. simp (t, e))
+    c.is_ok.ensures.value ∙ sym (known-found c.args.word c.try_from.result (rw (sym c.hxg_type.ensures) c.try_from.ensures))

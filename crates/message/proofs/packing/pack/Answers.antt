@@ -1,76 +1,66 @@
 -- `packing::pack` meets its contract: the tests are those of `pack_is`, and the sums fit since the fields lie side by
 -- side. Assumes nothing.
-use Prim.Native.Nat.{ℕ, ◌<◌}
-use mathlib.Core.Path.{◌≡◌, refl, sym, ◌∙◌}
-use mathlib.Core.Bool.{Bool, true, false, ◌&&◌, cond}
+use Prim.Native.Nat.{ℕ}
+use mathlib.Core.Path.{◌≡◌, refl, ◌∙◌}
+use mathlib.Core.Bool.{Bool, true, false, cond}
 use native.Mathlib.Omega.{arith}
-use lib.Dec.{ltb, leb}
 use borrow.Author.Tests.{ltb-true}
-use Rattle.message.specs.Fields.{fit, dword}
+use mathlib.Core.List.{List}
+use Rattle.std.specs.Prelude.{Option, Result, Ok, Err, None, Some, ok_or}
+use Rattle.std.proofs.lemmas.Result.{err_from_is_err_and}
+use Rattle.refusal.specs.declared.Refusal.{Refusal}
+use Rattle.refusal.specs.declared.Refusal.TheVariants.{BadField}
+use Rattle.message.specs.Fields.{FieldValue, fit, dword}
 use Rattle.message.specs.Types.{body_fields}
 use Rattle.message.specs.Packing.{refusing, of_packed, origin_number}
-use Rattle.message.specs.declared.packing.BodyBits.TheVariants.{TooWide, Bits}
-use Rattle.message.proofs.Tests.{and_l, and_r, and_false}
+use Rattle.message.proofs.Tests.{and_false}
 use Rattle.message.proofs.Tiling.{dword_lt}
 use Rattle.message.proofs.PackLaws.{pack_is, body_tiles, origin-fits}
 use Rattle.message.proofs.packing.pack.Goals as goal
 
 -- what the body's answer says: its fields fit, and their dword; or one is too wide
-placed_fit : (t : Bool) (n x : ℕ) → cond t (Bits n) TooWide ≡ Bits x → t ≡ true
-placed_fit true n x e = refl
-placed_fit false n x e = cc
+module _ (n : ℕ) (e : Refusal) where
+  placed : (t : Bool) (x : ℕ) → ok_or (cond t (Some n) None) e ≡ Ok x → (t ≡ true) × (n ≡ x)
+  placed true x q = (refl, cc)
+  placed false x q = cc
 
-placed_bits : (t : Bool) (n x : ℕ) → cond t (Bits n) TooWide ≡ Bits x → n ≡ x
-placed_bits true n x e = cc
-placed_bits false n x e = cc
+  unplaced : (t : Bool) (r : Refusal) → ok_or (cond t (Some n) None) e ≡ Err r → (t ≡ false) × (e ≡ r)
+  unplaced true r q = cc
+  unplaced false r q = (refl, cc)
 
-placed_wide : (t : Bool) (n : ℕ) → cond t (Bits n) TooWide ≡ TooWide → t ≡ false
-placed_wide true n e = cc
-placed_wide false n e = refl
+module _ (b : List FieldValue) (o : Option ℕ) (q : o ≡ cond (fit b) (Some (dword b)) None) where
+  answered : (r : Result ℕ Refusal) → r ≡ ok_or o BadField → ok_or (cond (fit b) (Some (dword b)) None) BadField ≡ r
+  answered r e = rw (e, q) refl
 
--- what the test of the header says
-module _ (n f : ℕ) (t : ((leb 1 n && ltb n 256) && ltb f 65536) ≡ true) where
-  header-n : n < 256
-  header-n = ltb-true n 256 (and_r (leb 1 n) (ltb n 256) (and_l (leb 1 n && ltb n 256) (ltb f 65536) t))
-
-  header-fence : f < 65536
-  header-fence = ltb-true f 65536 (and_r (leb 1 n && ltb n 256) (ltb f 65536) t)
-
-pub returns-in_default : goal.returns-in_default
+pub returns-in_err-bits : goal.returns-in_err-bits
 unfolding refusing of_packed
-returns-in_default c =
+returns-in_err-bits c =
     let b = body_fields c.args.m.body in
-    let w = placed_wide (fit b) (dword b) (sym c.body_bits.ensures ∙ c.in_default.is) in
-    simp (pack_is, w, and_false)
+    let f = err_from_is_err_and c.from_residual.result c.from_residual.ensures.1 in
+    let e = answered b _ c.body_bits.ensures _ c.ok_or.ensures.value ∙ c.in_err-bits.was in
+    let p = unplaced (dword b) BadField (fit b) _ e in
+    simp (f.1, f.2, ← p.1, pack_is, p.0, and_false)
 
-pub overflow_mul-result : goal.overflow_mul-result
-overflow_mul-result c =
-    let m = c.args.m in
-    omega (arith, header-fence m.num_dwords m.fence c.if-n-fence.true)
-
-pub overflow_add-result : goal.overflow_add-result
-overflow_add-result c =
-    let m = c.args.m in
-    let n = m.num_dwords in
-    omega (arith, header-n n m.fence c.if-n-fence.true, header-fence n m.fence c.if-n-fence.true)
+pub overflow_mul-result-then-n-fence : goal.overflow_mul-result-then-n-fence
+overflow_mul-result-then-n-fence c =
+    omega (arith, c.from.ensures, ltb-true (origin_number c.args.m.origin) 2 (origin-fits c.args.m.origin))
 
 pub overflow_add-result-then-n-fence : goal.overflow_add-result-then-n-fence
 overflow_add-result-then-n-fence c =
-    let placed = c in
-    let m = placed.args.m in
-    let b = body_fields m.body in
-    let e = sym placed.body_bits.ensures ∙ placed.in-Bits.is in
-    let l = dword_lt 31 b (body_tiles m.body) (placed_fit (fit b) (dword b) _ e) in
-    omega (arith, placed_bits (fit b) (dword b) _ e, ltb-true (origin_number m.origin) 2 (origin-fits m.origin))
+    let o = c.args.m.origin in
+    let b = body_fields c.args.m.body in
+    let e = answered b _ c.body_bits.ensures _ c.ok_or.ensures.value ∙ c.in_ok-bits.was in
+    let p = placed (dword b) BadField (fit b) _ e in
+    omega (arith, p.1, c.from.ensures, dword_lt 31 b (body_tiles c.args.m.body) p.0, ltb-true (origin_number o) 2 (origin-fits o))
 
 pub returns-then-n-fence : goal.returns-then-n-fence
 unfolding refusing of_packed
 returns-then-n-fence c =
-    let placed = c in
-    let b = body_fields placed.args.m.body in
-    let e = sym placed.body_bits.ensures ∙ placed.in-Bits.is in
-    simp (pack_is, c.if-n-fence.true, placed_fit (fit b) (dword b) _ e, placed_bits (fit b) (dword b) _ e, c.origin_bit.ensures)
+    let b = body_fields c.args.m.body in
+    let e = answered b _ c.body_bits.ensures _ c.ok_or.ensures.value ∙ c.in_ok-bits.was in
+    let p = placed (dword b) BadField (fit b) _ e in
+    simp (pack_is, c.if-n-fence.true, p.0, p.1, c.from.ensures)
 
-pub returns : goal.returns
+pub returns-else-n-fence : goal.returns-else-n-fence
 unfolding refusing of_packed
-returns c = simp (pack_is, c.if-n-fence.false)
+returns-else-n-fence c = simp (pack_is, c.if-n-fence.false)

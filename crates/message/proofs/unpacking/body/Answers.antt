@@ -1,42 +1,32 @@
--- `unpacking::body` meets its contract: the number of the type picks its row of the table, and after the others a known
--- type is success. Assumes nothing.
-use mathlib.Core.Path.{◌∙◌}
+-- `unpacking::body` meets its contract: the type picks its row of the table. Assumes nothing.
 use native.Mathlib.Nat.{div-one}
 use Rattle.message.specs.Types.{type_of, bodies_from, bodies, of_type, body_of}
-use Rattle.message.proofs.Types.{else_success}
 use Rattle.message.proofs.unpacking.body.Goals as goal
 
-pub returns-in-0 : goal.returns-in-0
+pub returns-in-Request : goal.returns-in-Request
 unfolding body_of bodies_from bodies of_type type_of
-returns-in-0 c = simp (← c.hxg_type-t.ensures, c.in-0.is, div-one)
+returns-in-Request c = simp (← c.requires, c.in-Request.is, div-one)
 
-pub returns-in-1 : goal.returns-in-1
+pub returns-in-Event : goal.returns-in-Event
 unfolding body_of bodies_from bodies of_type type_of
-returns-in-1 c = simp (← c.hxg_type-t.ensures, c.in-1.is, div-one)
+returns-in-Event c = simp (← c.requires, c.in-Event.is, div-one)
 
-pub returns-in-2 : goal.returns-in-2
+pub returns-in-FastRequest : goal.returns-in-FastRequest
 unfolding body_of bodies_from bodies of_type type_of
-returns-in-2 c = simp (← c.hxg_type-t.ensures, c.in-2.is, div-one)
+returns-in-FastRequest c = simp (← c.requires, c.in-FastRequest.is, div-one)
 
-pub returns-in-3 : goal.returns-in-3
+pub returns-in-Busy : goal.returns-in-Busy
 unfolding body_of bodies_from bodies of_type type_of
-returns-in-3 c = simp (← c.hxg_type-t.ensures, c.in-3.is, div-one)
+returns-in-Busy c = simp (← c.requires, c.in-Busy.is, div-one)
 
-pub returns-in-5 : goal.returns-in-5
+pub returns-in-Retry : goal.returns-in-Retry
 unfolding body_of bodies_from bodies of_type type_of
-returns-in-5 c = simp (← c.hxg_type-t.ensures, c.in-5.is, div-one)
+returns-in-Retry c = simp (← c.requires, c.in-Retry.is, div-one)
 
-pub returns-in-6 : goal.returns-in-6
+pub returns-in-Failure : goal.returns-in-Failure
 unfolding body_of bodies_from bodies of_type type_of
-returns-in-6 c = simp (← c.hxg_type-t.ensures, c.in-6.is, div-one)
+returns-in-Failure c = simp (← c.requires, c.in-Failure.is, div-one)
 
-pub returns-in_default : goal.returns-in_default
+pub returns-in-Success : goal.returns-in-Success
 unfolding body_of bodies_from bodies of_type type_of
-returns-in_default c =
-    let t = c.hxg_type-t.ensures in
-    let n = c.in_default.in_default-own.rest in
-    let e =
-    else_success c.args.word c.requires
-    (λ z. n.0.0.0.0.0.1 (t ∙ z)) (λ z. n.0.0.0.0.1 (t ∙ z)) (λ z. n.0.0.0.1 (t ∙ z))
-    (λ z. n.0.0.1 (t ∙ z)) (λ z. n.0.1 (t ∙ z)) (λ z. n.1 (t ∙ z)) in
-    simp (e, div-one)
+returns-in-Success c = simp (← c.requires, c.in-Success.is, div-one)

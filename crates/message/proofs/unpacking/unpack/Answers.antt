@@ -5,14 +5,14 @@ use mathlib.Core.Bool.{Bool, ◌&&◌}
 use mathlib.Core.List.{List}
 use lib.ListN.{length, get_or}
 use lib.Dec.{eqb}
-use borrow.Author.Tests.{not-true, not-false}
-use Rattle.message.specs.Types.{body_of}
+use Rattle.std.proofs.lemmas.Result.{err_from_is_err_and}
+use Rattle.std.specs.Prelude.{is_ok}
+use Rattle.message.specs.Types.{body_of, known}
 use Rattle.message.specs.Header.{total_length, well_formed, is_message}
 use Rattle.message.specs.Packing.{decoded, refusing, of_unpacked}
-use Rattle.message.proofs.Formed.{message_well}
-use Rattle.message.proofs.PackLaws.{unpack_some, unpack-none}
+use Rattle.message.proofs.Types.{known-found}
+use Rattle.message.proofs.PackLaws.{unpack_some, unpack-none, unpack-unknown}
 use Rattle.message.proofs.unpacking.unpack.Goals as goal
-use Rattle.message.proofs.unpacking.unpack.Goals.{After-starts_message}
 
 -- what the test of a length and two dwords that were read says of the list
 judged :
@@ -22,28 +22,26 @@ judged :
 unfolding is_message
 judged h w d b t e eh ew q = rw (← eh, ← ew, ← e, q)
 
--- what the call's test says of its dwords
-said : (q : After-starts_message) (t : Bool) → q.starts_message.result ≡ t → is_message q.args.dwords.now ≡ t
-said q t e = judged _ _ _ _ _ q.starts_message.ensures q.dword_at-header.ensures q.dword_at-word.ensures e
-
 pub returns-then-not-starts_message : goal.returns-then-not-starts_message
 unfolding refusing of_unpacked
 returns-then-not-starts_message c =
-    simp (unpack-none c.args.dwords.now (said (goal.at.returns-then-not-starts_message c).After-starts_message _ (not-true _ c.if-not-starts_message.true-raw)))
+    let s = c.starts_message.ensures in
+    let e = judged _ _ _ _ _ s c.dword_at-header.ensures c.dword_at-word.ensures c.if-not-starts_message.true in
+    simp (unpack-none _ e)
 
-pub body-requires : goal.body-requires
-body-requires c =
-    let q = c in
-    let e = said (goal.at.body-requires q).After-starts_message _ (not-false _ c.if-not-starts_message.false-raw) in
-    rw q.dword_at-word.ensures (message_well q.args.dwords.now e).known-type
+pub returns-in_err-t : goal.returns-in_err-t
+unfolding refusing of_unpacked
+returns-in_err-t c =
+    let f = err_from_is_err_and c.from_residual.result c.from_residual.ensures.1 in
+    let found = known-found _ c.try_from.result (rw (sym c.hxg_type.ensures) c.try_from.ensures) in
+    let unknown = ap known (sym c.dword_at-word.ensures) ∙ found ∙ ap is_ok c.in_err-t.was in
+    simp (f.1, f.2, unpack-unknown c.args.dwords.now unknown)
 
 pub returns : goal.returns
 unfolding refusing of_unpacked decoded
 returns c =
-    let q = c in
-    let d = q.args.dwords.now in
-    let h = q.dword_at-header.ensures in
-    let w = q.dword_at-word.ensures in
-    let e = said (goal.at.returns q).After-starts_message _ (not-false _ c.if-not-starts_message.false-raw) in
-    let u = unpack_some d c.body.result e (ap body_of (sym w) ∙ sym c.body.ensures) in
-    simp (u, c.origin_of.ensures, c.num_dwords.ensures, h, w)
+    let h = c.dword_at-header.ensures in
+    let w = c.dword_at-word.ensures in
+    let e = judged _ _ _ _ _ c.starts_message.ensures h w c.if-not-starts_message.false in
+    let u = unpack_some c.args.dwords.now c.body.result e (ap body_of (sym w) ∙ sym c.body.ensures) in
+    simp (u, c.of.ensures, c.num_dwords.ensures, h, w)

@@ -1,13 +1,12 @@
 -- `finding::later` meets its contract. Assumes nothing.
-use mathlib.Core.Path.{◌∙◌}
-use borrow.Author.Tests.{eq-eqb, ne_eqb}
 use Rattle.record.specs.Private.{later}
+use Rattle.record.proofs.Figures.{figure-eqb}
 use Rattle.record.proofs.finding.later.Goals as goal
 
-pub returns-then-r-ne0 : goal.returns-then-r-ne0
+pub returns-in-Ok : goal.returns-in-Ok
 unfolding later
-returns-then-r-ne0 c = c.torn.ensures ∙ rw (ne_eqb _ _ c.if-r-ne0.true)
+returns-in-Ok c = rw c.in-Ok.is
 
-pub returns : goal.returns
+pub returns-in-Err : goal.returns-in-Err
 unfolding later
-returns c = rw (eq-eqb _ _ c.if-r-ne0.false)
+returns-in-Err c = rw (c.in-Err.is, figure-eqb c.in-Err.torn.fault)

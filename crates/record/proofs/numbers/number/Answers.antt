@@ -1,35 +1,32 @@
 -- `numbers::number` meets its contract: after some turns the number is that of the groups from here on, with those that
 -- were read carried. Assumes nothing.
-use Prim.Native.Nat.{◌-◌, ◌^◌, ◌≤◌}
+use Prim.Native.Nat.{◌-◌, ◌≤◌}
 use mathlib.Core.Path.{◌≡◌, refl, sym, ap, ◌∙◌}
 use native.Mathlib.Omega.{arith}
+use borrow.Author.Tests.{eqb-true, eqb-false}
 use lib.ListN.{length, get_or, drop}
 use Rattle.record.specs.Numbers.{form_of}
 use Rattle.record.specs.Private.{carried}
 use Rattle.record.proofs.Groups as groups
 use Rattle.record.proofs.numbers.number.Goals as goal
 
-pub returns-then-bytes-eq0 : goal.returns-then-bytes-eq0
-returns-then-bytes-eq0 c =
-    c.no_number.ensures ∙ sym (groups.number-none c.args.bytes.now (omega arith))
+pub returns-then-is_empty : goal.returns-then-is_empty
+returns-then-is_empty c =
+    let f = c.args.bytes.now in
+    let none : length f ≡ 0 = eqb-true (length f) 0 (sym c.if-is_empty.ensures) in
+    sym (groups.number-none f none)
 
 pub loop-size-init : goal.loop-size-init
 loop-size-init c =
     let f = c.args.bytes.now in
+    let some : length f ≡ 0 → ⊥ = eqb-false (length f) 0 (sym c.if-is_empty.ensures) in
     let there : 1 ≤ length f = omega arith in
     (there, omega arith, refl, omega arith, groups.number-first f there)
 
 pub returns-then-bytes-size : goal.returns-then-bytes-size
 returns-then-bytes-size c =
     let l = c.loop-size in
-    c.no_number-then-bytes-size.ensures ∙ sym (l.invariant.4 ∙ groups.no_group _ l.value l.weight l.size _ (omega arith))
-
-pub ended-requires : goal.ended-requires
-ended-requires c =
-    let l = c.loop-size in
-    let f = c.args.bytes.now in
-    let b = groups.holds_group l.size l.value (get_or f l.size 0) (omega arith) (rw (← l.invariant.2) l.invariant.3) (omega arith) in
-    record { group_bound = rw l.invariant.2 (omega (arith, b.0, b.1)); size_bound = omega arith }
+    sym (l.invariant.4 ∙ groups.no_group _ l.value l.weight l.size _ (omega arith))
 
 pub returns-then-group-lt128 : goal.returns-then-group-lt128
 returns-then-group-lt128 c =
@@ -37,46 +34,24 @@ returns-then-group-lt128 c =
     c.ended.ensures
     ∙ sym (l.invariant.4 ∙ groups.last_group _ l.value l.weight l.size (omega arith) (omega arith) (omega arith))
 
-pub overflow_cast-value : goal.overflow_cast-value
-overflow_cast-value c =
-    let l = c.loop-size in
-    omega (arith, c.shared_slice_known-in-loop-size-1.given l.size)
-
-pub overflow_mul-value : goal.overflow_mul-value
-overflow_mul-value c =
-    let l = c.loop-size in
-    let f = c.args.bytes.now in
-    let g = c.shared_slice_known-in-loop-size-1.given l.size in
-    let b = groups.holds_group l.size l.value (get_or f l.size 0 - 128) (omega arith) (rw (← l.invariant.2) l.invariant.3) (omega (arith, g)) in
-    rw l.invariant.2 (omega (arith, b.0, b.1))
-
-pub overflow_add-value : goal.overflow_add-value
-overflow_add-value c =
-    let l = c.loop-size in
-    let f = c.args.bytes.now in
-    let g = c.shared_slice_known-in-loop-size-1.given l.size in
-    let b = groups.holds_group l.size l.value (get_or f l.size 0 - 128) (omega arith) (rw (← l.invariant.2) l.invariant.3) (omega (arith, g)) in
-    rw l.invariant.2 (omega (arith, b.0, b.1))
-
-pub overflow_mul-weight : goal.overflow_mul-weight
-overflow_mul-weight c =
-    let l = c.loop-size in
-    let b = groups.holds_group l.size l.value 0 (omega arith) (rw (← l.invariant.2) l.invariant.3) (omega arith) in
-    rw l.invariant.2 (omega (arith, b.1))
-
 pub loop-size-preserved : goal.loop-size-preserved
 loop-size-preserved c =
     let l = c.loop-size in
     let f = c.args.bytes.now in
     let g = c.shared_slice_known-in-loop-size-1.given l.size in
     let b = groups.holds_group l.size l.value (get_or f l.size 0 - 128) (omega arith) (rw (← l.invariant.2) l.invariant.3) (omega (arith, g)) in
-    let next = groups.next_group f l.value l.weight l.size (omega arith) (omega arith) (omega arith) (omega (arith, g)) in
-    (omega arith, omega arith, rw l.invariant.2 b.2, rw l.invariant.2 b.0, l.invariant.4 ∙ next)
+    let next = groups.next_group f l.value l.weight l.size (omega arith) (omega arith) (omega arith) (omega (arith, g)) in (
+      omega arith,
+      omega arith,
+      rw l.invariant.2 b.2,
+      rw (l.invariant.2, c.from.ensures) b.0,
+      l.invariant.4 ∙ rw c.from.ensures next,
+    )
 
 pub returns-then-bytes-le4 : goal.returns-then-bytes-le4
 returns-then-bytes-le4 c =
     let l = c.loop-size in
-    c.no_number-then-bytes-le4.ensures ∙ sym (l.invariant.4 ∙ groups.no_group _ l.value l.weight l.size _ (omega arith))
+    sym (l.invariant.4 ∙ groups.no_group _ l.value l.weight l.size _ (omega arith))
 
 pub returns-then-group-ge16 : goal.returns-then-group-ge16
 returns-then-group-ge16 c =
@@ -84,15 +59,7 @@ returns-then-group-ge16 c =
     let f = c.args.bytes.now in
     let four : l.size ≡ 4 = omega arith in
     let fifth = l.invariant.4 ∙ ap (λ s. carried l.value l.weight s (form_of (4 - s) (drop s f))) four in
-    c.no_number-then-group-ge16.ensures ∙ sym (fifth ∙ groups.wide_group f l.value l.weight 4 (omega arith) (omega arith))
-
-pub ended-requires-2 : goal.ended-requires-2
-ended-requires-2 c =
-    let l = c.loop-size in
-    let f = c.args.bytes.now in
-    let four : l.size ≡ 4 = omega arith in
-    let w : l.weight ≡ 128 ^ 4 = l.invariant.2 ∙ ap (λ s. 128 ^ s) four in
-    record { group_bound = rw w (groups.holds_fifth l.value (get_or f 4 0) (rw (← w) l.invariant.3) (omega arith)); size_bound = omega arith }
+    sym (fifth ∙ groups.wide_group f l.value l.weight 4 (omega arith) (omega arith))
 
 pub returns : goal.returns
 returns c =

@@ -1,7 +1,6 @@
 -- `reading::has_room` meets its contract: a file has no more dwords than bytes. Assumes nothing.
-use mathlib.Core.Path.{sym, ap}
+use mathlib.Core.Path.{sym}
 use native.Mathlib.Omega.{arith}
-use lib.Dec.{leb}
 use borrow.Author.Tests.{le-leb}
 use Rattle.record.specs.Files.{whole_of}
 use Rattle.record.proofs.BothWays.{one_each}
@@ -11,6 +10,3 @@ pub returns-then-file-room : goal.returns-then-file-room
 returns-then-file-room c =
     let a = c.args in
     sym (le-leb (whole_of a.file.now) a.room (omega (arith, one_each a.file.now)))
-
-pub returns : goal.returns
-returns c = ap (λ n. leb n c.args.room) c.count_dwords.ensures

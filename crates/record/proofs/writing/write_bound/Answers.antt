@@ -3,10 +3,6 @@ use native.Mathlib.Omega.{arith}
 use Rattle.record.specs.Calls.{write_bound}
 use Rattle.record.proofs.writing.write_bound.Goals as goal
 
-pub returns-then-dwords-le3689348814741910323 : goal.returns-then-dwords-le3689348814741910323
+pub returns : goal.returns
 unfolding write_bound
-returns-then-dwords-le3689348814741910323 c = omega arith
-
-pub returns-else-dwords-le3689348814741910323 : goal.returns-else-dwords-le3689348814741910323
-unfolding write_bound
-returns-else-dwords-le3689348814741910323 c = omega arith
+returns c = omega arith

@@ -4,4 +4,4 @@ use Rattle.requests.proofs.asking.reply.Goals as goal
 
 pub returns : goal.returns
 unfolding heard_of
-returns c = rw c.type_of.ensures
+returns c = simp (c.from.ensures, c.kind.ensures)

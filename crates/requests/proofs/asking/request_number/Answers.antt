@@ -14,13 +14,13 @@ returns-then-not-starts_message c =
     let q = c in
     simp (le-leb _ _ q.if-room-gt-ROOM_MAX.false, sym c.starts_message.ensures ∙ not-true _ c.if-not-starts_message.true-raw)
 
-pub returns-then-hxg_type-ne-TYPE_REQUEST : goal.returns-then-hxg_type-ne-TYPE_REQUEST
+pub returns-then-hxg_type : goal.returns-then-hxg_type
 unfolding need
-returns-then-hxg_type-ne-TYPE_REQUEST c =
+returns-then-hxg_type c =
     let q = c in
     let s = sym q.starts_message.ensures ∙ not-false _ q.if-not-starts_message.false-raw in
     let t = c.hxg_type.ensures in
-    simp (le-leb _ _ q.if-room-gt-ROOM_MAX.false, s, rw t at (ne_eqb _ 0 c.if-hxg_type-ne-TYPE_REQUEST.true))
+    simp (le-leb _ _ q.if-room-gt-ROOM_MAX.false, s, rw t at (ne_eqb _ 0 c.if-hxg_type.true))
 
 pub returns : goal.returns
 unfolding need
@@ -28,4 +28,4 @@ returns c =
     let q = c in
     let s = sym q.starts_message.ensures ∙ not-false _ q.if-not-starts_message.false-raw in
     let t = c.hxg_type.ensures in
-    simp (le-leb _ _ q.if-room-gt-ROOM_MAX.false, s, rw t at (eq-eqb _ 0 c.if-hxg_type-ne-TYPE_REQUEST.false))
+    simp (le-leb _ _ q.if-room-gt-ROOM_MAX.false, s, rw t at (eq-eqb _ 0 c.if-hxg_type.false))

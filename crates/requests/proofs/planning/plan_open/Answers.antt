@@ -16,23 +16,23 @@ use Rattle.requests.specs.Plan.{refused_plan}
 use Rattle.requests.proofs.Beside.{with_length, with_free, with_open}
 use Rattle.requests.proofs.Plans.{open_code, plan_unopened, plan_free}
 use Rattle.requests.proofs.planning.plan_open.Goals as goal
-use Rattle.requests.proofs.planning.plan_open.Goals.{After-need-code}
+use Rattle.requests.proofs.planning.plan_open.Goals.{After-open_number-code}
 
-abbrev table : After-need-code → List Record
+abbrev table : After-open_number-code → List Record
 table q = records_with q.args.words.now q.args.rooms.now
 
 -- the place is the lowest free record's
-place : (q : After-need-code) → q.lowest_free-at.result ≡ lowest_free (table q)
+place : (q : After-open_number-code) → q.lowest_free-at.result ≡ lowest_free (table q)
 place q =
     let a = q.args in
     q.lowest_free-at.ensures ∙ sym (with_free a.words.now a.rooms.now)
 
-number : (q : After-need-code) → q.need-code.result ≡ open_code (table q) q.args.state q.args.room q.args.action
+number : (q : After-open_number-code) → q.open_number-code.result ≡ open_code (table q) q.args.state q.args.room q.args.action
 number q =
     let a = q.args in
     let n = with_length a.words.now a.rooms.now in
     let sum = q.set_aside.ensures.0 in
-    q.need-code.ensures ∙ ap (need _ 26) q.need.ensures
+    q.open_number-code.ensures
     ∙ (λ i. need (ltb (place q i) (sym n i)) 26 (need (leb (sum i + a.room) (a.state.n - 1)) 28 0))
 
 pub returns-then-code-ne0 : goal.returns-then-code-ne0
@@ -40,16 +40,16 @@ returns-then-code-ne0 c =
     let q = c in
     let a = q.args in
     let n = with_length a.words.now a.rooms.now in
-    let no : open_code (table (goal.at.returns-then-code-ne0 q).After-need-code) a.state a.room a.action ≡ 0 → ⊥ = λ z. c.if-code-ne0.true (number (goal.at.returns-then-code-ne0 q).After-need-code ∙ z) in
-    c.refuse.ensures ∙ (λ i. refused_plan (number (goal.at.returns-then-code-ne0 q).After-need-code i) (sym n i) a.state.last)
-    ∙ sym (plan_unopened (table (goal.at.returns-then-code-ne0 q).After-need-code) a.state a.room a.action no)
+    let no : open_code (table (goal.at.returns-then-code-ne0 q).After-open_number-code) a.state a.room a.action ≡ 0 → ⊥ = λ z. c.if-code-ne0.true (number (goal.at.returns-then-code-ne0 q).After-open_number-code ∙ z) in
+    c.refuse.ensures ∙ (λ i. refused_plan (number (goal.at.returns-then-code-ne0 q).After-open_number-code i) (sym n i) a.state.last)
+    ∙ sym (plan_unopened (table (goal.at.returns-then-code-ne0 q).After-open_number-code) a.state a.room a.action no)
 
 pub returns : goal.returns
 returns c =
     let q = c in
     let a = q.args in
     let words = a.words.now in
-    let same : still_open (table (goal.at.returns q).After-need-code) ≡ still_open (records words) = λ i f. with_open f words a.rooms.now i in
+    let same : still_open (table (goal.at.returns q).After-open_number-code) ≡ still_open (records words) = λ i f. with_open f words a.rooms.now i in
     let fence = c.next_fence-fence.ensures ∙ ap (λ (o : ℕ → Bool). next_fence o a.state.last) (sym same) in
     let plan : ℕ → ℕ → Plan =
     λ at f.
@@ -60,5 +60,5 @@ returns c =
       was = a.state.last;
       last = f;
     } in
-    (λ i. plan (place (goal.at.returns q).After-need-code i) (fence i))
-    ∙ sym (plan_free (table (goal.at.returns q).After-need-code) a.state a.room a.action (sym (number (goal.at.returns q).After-need-code) ∙ c.if-code-ne0.false))
+    (λ i. plan (place (goal.at.returns q).After-open_number-code i) (fence i))
+    ∙ sym (plan_free (table (goal.at.returns q).After-open_number-code) a.state a.room a.action (sym (number (goal.at.returns q).After-open_number-code) ∙ c.if-code-ne0.false))

@@ -1,75 +1,47 @@
 -- `receiving::pending_header` meets its contract: it reads the descriptor's three words, and the header where they say
 -- that a message is pending. Assumes nothing.
-use mathlib.Core.Path.{◌≡◌, sym, ap, ◌∙◌}
+use mathlib.Core.Path.{◌≡◌, sym}
+use borrow.Author.Rules.{rules}
 use lib.ListN.{length, get_or}
-use borrow.Author.Tests.{ne_eqb}
-use Rattle.ring.specs.Private.{pending_by, pending_number}
+use Rattle.ring.specs.Private.{pending_number}
 use Rattle.ring.specs.Ring.{head, status, tail, used}
-use Rattle.ring.specs.declared.numbers.InUse.{InUse}
 use Rattle.ring.proofs.LookNeeds.{by_descriptor, torn, whole}
+use Rattle.ring.proofs.Taken.{refused-header}
 use Rattle.ring.proofs.receiving.pending_header.Goals as goal
-use Rattle.ring.proofs.receiving.pending_header.Goals.{After-pending-p, Else-code-ne0}
-
--- what the descriptor's words say
-said :
-    (q : After-pending-p) →
-    let a = q.args in
-    let d = a.desc.now in
-    let n = length a.buf.now in
-    q.pending-p.result ≡ pending_by (pending_number n a.own (status d) (head d) (tail d)) n (head d) (tail d)
-said q =
-    rw (
-      q.wide-tail.ensures,
-      q.dword_at-3.ensures,
-      q.wide-head.ensures,
-      q.dword_at-2.ensures,
-      q.wide-status.ensures,
-      q.dword_at.ensures,
-    ) at q.pending-p.ensures
+use Rattle.ring.proofs.receiving.pending_header.Goals.{In_ok-used}
 
 -- past the descriptor's words: they ask for no number, and say what is in use
 passed :
-    (f : Else-code-ne0) →
-    let a = f.args in
+    (c : In_ok-used) →
+    let a = c.args in
     let d = a.desc.now in
-    let n = length a.buf.now in
-    let c = pending_number n a.own (status d) (head d) (tail d) in
-    f.pending-p.result ≡ pending_by c n (head d) (tail d)
-    → c ≡ 0
-passed f said = sym (ap (λ (x : InUse). x.code) said) ∙ f.if-code-ne0.false
+    pending_number (length a.buf.now) a.own (status d) (head d) (tail d) ≡ 0
+passed c = simp (← c.dword_at.ensures, ← c.dword_at-2.ensures, ← c.dword_at-3.ensures, ← c.wide-status.ensures, ← c.wide-head.ensures, ← c.wide-tail.ensures) (sym c.in_ok-used.ensures.says)
 
 in_use :
-    (f : Else-code-ne0) →
-    let a = f.args in
+    (c : In_ok-used) →
+    let a = c.args in
     let d = a.desc.now in
-    let n = length a.buf.now in
-    f.pending-p.result ≡ pending_by (pending_number n a.own (status d) (head d) (tail d)) n (head d) (tail d)
-    → f.pending-p.result.used ≡ used n (head d) (tail d)
-in_use f said = rw (passed f said) at (ap (λ (x : InUse). x.used) said)
+    c.in_ok-used.used ≡ used (length a.buf.now) (head d) (tail d)
+in_use c = simp (← c.dword_at-2.ensures, ← c.dword_at-3.ensures, ← c.wide-head.ensures, ← c.wide-tail.ensures) c.in_ok-used.ensures.in_use
 
-pub returns-then-code-ne0 : goal.returns-then-code-ne0
-returns-then-code-ne0 c =
-    let e = ap (λ (x : InUse). x.code) (said (goal.at.returns-then-code-ne0 c).After-pending-p) in
-    rw (by_descriptor _ _ _ _ _ _ _ (sym e) c.if-code-ne0.true, ne_eqb _ _ c.if-code-ne0.true)
+pub returns-in_err-used : goal.returns-in_err-used
+returns-in_err-used c = search (rules, refused-header, by_descriptor)
 
-pub returns-then-p-len : goal.returns-then-p-len
-returns-then-p-len c =
-    let f = c in
-    let a = f.args in
-    let d = a.desc.now in
-    let b = a.buf.now in
-    let len = c in
-    rw (torn (length b) a.own (status d) (head d) (tail d) (get_or b a.own 0) (passed (goal.at.returns-then-p-len c).Else-code-ne0 (said (goal.at.returns-then-p-len c).After-pending-p))
-    (rw (sym (in_use (goal.at.returns-then-p-len c).Else-code-ne0 (said (goal.at.returns-then-p-len c).After-pending-p)), ← len.dword_at-header.ensures, ← len.total_length-len.ensures) c.if-p-len.true))
+pub returns-then-used-len : goal.returns-then-used-len
+returns-then-used-len c =
+    let d = c.args.desc.now in
+    let b = c.args.buf.now in
+    let f = (goal.at.returns-then-used-len c).In_ok-used in
+    rw (torn (length b) c.args.own (status d) (head d) (tail d) (get_or b c.args.own 0) (passed f)
+    (rw (sym (in_use f), ← c.dword_at-header.ensures, ← c.total_length-len.ensures) c.if-used-len.true))
 
 pub returns : goal.returns
 returns c =
-    let f = c in
-    let a = f.args in
-    let d = a.desc.now in
-    let b = a.buf.now in
-    let len = c in
+    let d = c.args.desc.now in
+    let b = c.args.buf.now in
+    let f = (goal.at.returns c).In_ok-used in
     let e =
-    whole (length b) a.own (status d) (head d) (tail d) (get_or b a.own 0) (passed (goal.at.returns c).Else-code-ne0 (said (goal.at.returns c).After-pending-p))
-    (rw (sym (in_use (goal.at.returns c).Else-code-ne0 (said (goal.at.returns c).After-pending-p)), ← len.dword_at-header.ensures, ← len.total_length-len.ensures) c.if-p-len.false) in
-    rw (e, len.total_length-len.ensures, len.dword_at-header.ensures)
+    whole (length b) c.args.own (status d) (head d) (tail d) (get_or b c.args.own 0) (passed f)
+    (rw (sym (in_use f), ← c.dword_at-header.ensures, ← c.total_length-len.ensures) c.if-used-len.false) in
+    rw (e, c.total_length-len.ensures, c.dword_at-header.ensures)

@@ -5,14 +5,11 @@ use Rattle.ring.proofs.receiving.whole_receive.Goals as goal
 
 pub end_receive-requires : goal.end_receive-requires
 end_receive-requires c e =
-    let done = c in
-    let a = done.args in
-    let p = done.take_message-end.ensures in
+    let a = c.args in
+    let p = c.take_message-taken.ensures in
     omega (arith, p.small (taken_zero a.fits a.own a.out.now a.desc.now a.buf.now _ p.code e))
 
 pub returns : goal.returns
 returns c =
-    let done = c in
-    let a = done.args in
-    whole-taken a.fits a.own a.out.now a.desc.now a.buf.now _ _ _
-    done.take_message-end.ensures c.end_receive.ensures
+    let a = c.args in
+    whole-taken a.fits a.own a.out.now a.desc.now a.buf.now _ _ _ c.take_message-taken.ensures c.end_receive.ensures

@@ -1,32 +1,30 @@
 -- `sending::send_decision` meets its contract: 1 to 4 are judged first, and past them the descriptor's words decide.
 -- Assumes nothing.
-use mathlib.Core.Path.{refl, sym, ◌∙◌}
-use Rattle.ring.specs.Numbers.{send_decision}
+use mathlib.Core.Path.{sym}
+use borrow.Author.Rules.{rules}
+use Rattle.ring.specs.Numbers.{need, send_decision}
 use Rattle.ring.proofs.Chains.{first-needs-none, first-needs-one}
 use Rattle.ring.proofs.sending.send_decision.Goals as goal
 
-pub returns-then-code-ne0 : goal.returns-then-code-ne0
+pub returns-in_err-first_needs : goal.returns-in_err-first_needs
 unfolding send_decision
-returns-then-code-ne0 c =
-    let s = c in
-    let e = rw (s.need.ensures, s.starts_message-formed.ensures) at s.first_needs-code.ensures in
-    sym (first-needs-one _ _ _ _ 4 _ _ (sym e) c.if-code-ne0.true)
+returns-in_err-first_needs c = search (rules, first-needs-one)
+
+pub returns-then-not-starts_message : goal.returns-then-not-starts_message
+unfolding send_decision need
+returns-then-not-starts_message c =
+    rw (first-needs-none _ _ _ _ (sym c.in_ok-first_needs.ensures), ← c.starts_message.ensures, c.if-not-starts_message.true)
 
 pub returns : goal.returns
-unfolding send_decision
+unfolding send_decision need
 returns c =
-    let second = c in
-    let first = second in
-    let f = first in
-    let s = f in
-    let e = rw (s.need.ensures, s.starts_message-formed.ensures) at s.first_needs-code.ensures in
-    simp (
+    rw (first-needs-none _ _ _ _ (sym c.in_ok-first_needs.ensures), ← c.starts_message.ensures, c.if-not-starts_message.false)
+    (simp (
       c.send_look_needs.ensures,
       c.wide-tail.ensures,
       c.dword_at-3.ensures,
-      second.wide-head.ensures,
-      second.dword_at-2.ensures,
-      first.wide-status.ensures,
-      first.dword_at.ensures,
-    )
-    (sym (first-needs-none _ _ _ _ 4 _ refl (sym e ∙ f.if-code-ne0.false)))
+      c.wide-head.ensures,
+      c.dword_at-2.ensures,
+      c.wide-status.ensures,
+      c.dword_at.ensures,
+    ))

@@ -2,7 +2,8 @@
 use Prim.Native.Nat.{◌+◌, ◌-◌}
 use mathlib.Core.Path.{◌∙◌}
 use native.Mathlib.Omega.{arith}
-use lib.ListN.{length}
+use lib.ListN.{length, length-take, length-drop}
+use Rattle.slices.proofs.Fits.{copied-all}
 use Rattle.runs.proofs.TwoRuns.{part-run}
 use Rattle.runs.proofs.runs.load_run.Goals as goal
 
@@ -10,4 +11,4 @@ pub returns : goal.returns
 returns c =
     let a = c.args in
     let k = length a.dst.now in
-    c.copy_run.ensures ∙ part-run a.buf.now a.at (a.at + k - a.at) k (omega arith)
+    c.copy.ensures ∙ copied-all _ _ (simp (length-take, length-drop) (omega arith)) ∙ part-run a.buf.now a.at (a.at + k - a.at) k (omega arith)

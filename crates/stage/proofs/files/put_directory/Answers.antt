@@ -7,4 +7,4 @@ unfolding directory
 returns c =
     let length = c in
     let count = length in
-    simp (length.put_byte.ensures, count.put_dword-2.ensures, count.put_dword.ensures)
+    simp (length.put.ensures, count.put_dword-2.ensures, count.put_dword.ensures)

@@ -9,4 +9,4 @@ returns c =
     let third = fourth in
     let second = third in
     let first = second in
-    simp (fourth.put_byte-4.ensures, third.put_byte-3.ensures, second.put_byte-2.ensures, first.put_byte.ensures)
+    simp (fourth.put-4.ensures, third.put-3.ensures, second.put-2.ensures, first.put.ensures)

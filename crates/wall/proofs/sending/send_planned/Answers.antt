@@ -23,12 +23,12 @@ unfolding planned_send sent_plan
 returns-then-code-ne0 c =
     let q = c in
     let w = q in
-    let l = q.send_as-code.new in
+    let l = q.send_as-sent.new in
     let a = w.args in
     let z = eq-eqb a.p.answer.code 0 (passed (goal.at.returns-then-code-ne0 w).After-with_fence-header) in
     let code = ap (λ (r : Plan). r.answer.code) c.refuse.ensures in
-    let no = rw (sym code) at (ne_eqb q.send_as-code.result 0 c.if-code-ne0.true) in (
-      ap (λ (k : ℕ). in_words k 0 l.w l.desc l.buf []) code ∙ (rw w.with_fence-header.ensures at q.send_as-code.ensures) ∙ sym (rw z),
+    let no = rw (sym code) at (ne_eqb q.number_of-code.result 0 c.if-code-ne0.true) in (
+      ap (λ (k : ℕ). in_words k 0 l.w l.desc l.buf []) (code ∙ q.number_of-code.ensures) ∙ (rw w.with_fence-header.ensures at q.send_as-sent.ensures) ∙ sym (rw z),
       sym (rw (z, no) (ap (λ (k : ℕ). refused_plan k a.n a.p.was) code ∙ sym c.refuse.ensures)),
     )
 
@@ -37,10 +37,10 @@ unfolding planned_send sent_plan
 returns c =
     let q = c in
     let w = q in
-    let l = q.send_as-code.new in
+    let l = q.send_as-sent.new in
     let a = w.args in
     let z = eq-eqb a.p.answer.code 0 (passed (goal.at.returns w).After-with_fence-header) in (
-      ap (λ (k : ℕ). in_words k 0 l.w l.desc l.buf []) (passed (goal.at.returns w).After-with_fence-header ∙ sym c.if-code-ne0.false)
-          ∙ (rw w.with_fence-header.ensures at q.send_as-code.ensures) ∙ sym (rw z),
+      ap (λ (k : ℕ). in_words k 0 l.w l.desc l.buf []) (passed (goal.at.returns w).After-with_fence-header ∙ sym c.if-code-ne0.false ∙ q.number_of-code.ensures)
+          ∙ (rw w.with_fence-header.ensures at q.send_as-sent.ensures) ∙ sym (rw z),
       sym (rw z),
     )

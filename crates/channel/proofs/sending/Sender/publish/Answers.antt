@@ -3,6 +3,4 @@ use mathlib.Core.Path.{refl}
 use Rattle.channel.proofs.sending.Sender.publish.Goals as goal
 
 pub returns : goal.returns
-returns c =
-    let after-publish = c in
-    after-publish.publish_at.ensures after-publish.args.buf.now refl
+returns c = c.publish_at.ensures c.args.buf.now refl

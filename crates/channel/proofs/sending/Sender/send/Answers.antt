@@ -1,24 +1,17 @@
 -- `Sender::send` meets its contract: a whole send at once is its steps one after another. Assumes nothing.
-use borrow.Author.Tests.{ne_eqb}
-use Rattle.channel.specs.State.{of_sender}
-use Rattle.channel.proofs.SendAtOnce.{send_method}
+use borrow.Author.Rules.{rules}
+use Rattle.channel.specs.State.{of_state}
+use Rattle.channel.proofs.Wholes.{send_refused, whole_sent}
 use Rattle.channel.proofs.sending.Sender.send.Goals as goal
 
-pub returns-then-end-ne0 : goal.returns-then-end-ne0
-unfolding of_sender
-returns-then-end-ne0 c =
-    let after-whole = c in
-    let after-idle = after-whole in
-    let a = after-idle.args in
-    let steps = send_method (of_sender a.self) a.msg.now a.desc.now a.buf.now in
-    rw (steps _ _ _ _ after-idle.is_idle.ensures after-whole.whole_send-end.ensures, ne_eqb _ _ c.if-end-ne0.true)
+pub returns-in_err-tail : goal.returns-in_err-tail
+unfolding of_state
+returns-in_err-tail c =
+    let e = rw c.is_idle-fits.ensures at c.in_err-tail.ensures in
+    search (rules, send_refused _ _ _ _ _ _ _ e)
 
 pub returns : goal.returns
-unfolding of_sender
+unfolding of_state
 returns c =
-    let after-whole = c in
-    let after-idle = after-whole in
-    let a = after-idle.args in
-    let steps = send_method (of_sender a.self) a.msg.now a.desc.now a.buf.now in
-    rw (steps _ _ _ _ after-idle.is_idle.ensures after-whole.whole_send-end.ensures, c.if-end-ne0.false)
-    (simp c.idle_at.ensures)
+    let e = rw c.is_idle-fits.ensures at c.in_ok-tail.ensures in
+    (whole_sent _ _ _ _ _ _ _ e).own-moves _ c.idle_at-self.ensures

@@ -1,45 +1,45 @@
--- `Sender::store` meets its contract: a number other than 0 leaves all; after 0 the state is active and fits, so
--- that the place lies in the buffer and the dword in the copy. Assumes nothing.
+-- `Sender::store` meets its contract: a refusal leaves all; past it the state is active and fits, so that the place lies
+-- in the buffer and the dword in the copy. Assumes nothing.
 use Prim.Native.Nat.{◌<◌}
-use mathlib.Core.Path.{refl, sym, ◌∙◌}
+use mathlib.Core.Path.{refl, sym}
 use native.Mathlib.Omega.{arith}
 use lib.ListN.{length}
-use borrow.Author.Tests.{ltb-true, ne_eqb}
+use borrow.Author.Rules.{rules}
+use borrow.Author.Tests.{ltb-true}
 use Rattle.channel.specs.Send
-use Rattle.channel.specs.State.{of_sender}
+use Rattle.channel.specs.State.{of_sender, of_state}
+use Rattle.channel.proofs.Answered.{send-move-refused}
 use Rattle.channel.proofs.Going.{Going, going_place, going_send, going_test}
 use Rattle.channel.proofs.sending.Sender.store.Goals as goal
-use Rattle.channel.proofs.sending.Sender.store.Goals.{Else-code-ne0}
+use Rattle.channel.proofs.sending.Sender.store.Goals.{In_ok-go_on}
 
 -- what a step that goes on has
-fits : (c : Else-code-ne0) → let a = c.args in Going (length a.buf.now) (of_sender a.self)
-fits c = going_send _ _ _ _ 0 refl refl refl (sym c.go_on_number-code.ensures ∙ c.if-code-ne0.false)
+fits : (c : In_ok-go_on) → let a = c.args in Going (length a.buf.now) (of_sender a.self.now)
+fits c = going_send _ _ _ _ 0 refl refl refl (sym c.in_ok-go_on.ensures)
 
-more : (c : Else-code-ne0) → let s = c.args.self in s.moved < s.len
-more c = ltb-true _ _ (going_test _ _ _ _ (sym c.go_on_number-code.ensures ∙ c.if-code-ne0.false))
+more : (c : In_ok-go_on) → let s = c.args.self.now.state in s.moved < s.len
+more c = ltb-true _ _ (going_test _ _ _ _ (sym c.in_ok-go_on.ensures))
 
-in_copy : (c : Else-code-ne0) → c.args.self.moved < 256
-unfolding of_sender
+in_copy : (c : In_ok-go_on) → c.args.self.now.state.moved < 256
+unfolding of_state
 in_copy c = omega (arith, more c, (fits c).short)
 
-pub returns-then-code-ne0 : goal.returns-then-code-ne0
-unfolding Send.move_by Send.move_number of_sender
-returns-then-code-ne0 c = simp (← c.go_on_number-code.ensures, ne_eqb _ _ c.if-code-ne0.true)
-
-pub overflow_add-next : goal.overflow_add-next
-overflow_add-next c = omega (arith, in_copy (goal.at.overflow_add-next c).Else-code-ne0)
+pub returns-in_err-go_on : goal.returns-in_err-go_on
+unfolding Send.move_number of_state
+returns-in_err-go_on c = search (rules, send-move-refused)
 
 pub returns : goal.returns
-unfolding Send.move_by Send.move_number of_sender
+unfolding Send.move_by Send.move_number of_state
 returns c =
-    let after-put = c in
-    let after-past = after-put in
-    let e = after-past in
-    let p = after-past.past.ensures.0 in
-    simp (← e.go_on_number-code.ensures, e.if-code-ne0.false, after-put.put.ensures, p, going_place _ _ (fits (goal.at.returns e).Else-code-ne0))
+    let p = c.past.ensures.0 in
+    rw (← c.in_ok-go_on.ensures)
+    (simp (c.put.ensures, p, going_place _ _ (fits (goal.at.returns c).In_ok-go_on)))
 
 pub offset_bounds-self-moved : goal.offset_bounds-self-moved
-offset_bounds-self-moved c = omega (arith, in_copy (goal.at.offset_bounds-self-moved c).Else-code-ne0)
+offset_bounds-self-moved c = omega (arith, in_copy (goal.at.offset_bounds-self-moved c).In_ok-go_on)
 
 pub bounds-self-moved : goal.bounds-self-moved
-bounds-self-moved c = omega (arith, in_copy (goal.at.bounds-self-moved c).Else-code-ne0)
+bounds-self-moved c = omega (arith, in_copy (goal.at.bounds-self-moved c).In_ok-go_on)
+
+pub overflow_add-self : goal.overflow_add-self
+overflow_add-self c = omega (arith, in_copy (goal.at.overflow_add-self c).In_ok-go_on)

@@ -1,5 +1,0 @@
--- `state::sending_number` meets its contract: its tests are the chain's, in the same order. Assumes nothing.
-use Rattle.channel.proofs.state.sending_number.Goals as goal
-
-pub returns : goal.returns
-returns c = simp (c.first_needs.ensures, c.need.ensures, c.fits_sending.ensures)

@@ -1,0 +1,3 @@
+pub mod NotZero
+pub mod Refused
+pub mod OfNumber

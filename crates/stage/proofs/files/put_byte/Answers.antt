@@ -1,7 +1,0 @@
--- `files::put_byte` meets its contract: past the end `set` changes nothing either. Assumes nothing.
-use Rattle.std.proofs.Common.{sym}
-use lib.Seq.{set_out}
-use Rattle.stage.proofs.files.put_byte.Goals as goal
-
-pub returns-else-at-s : goal.returns-else-at-s
-returns-else-at-s c = sym (set_out _ _ _ c.if-at-s.false)

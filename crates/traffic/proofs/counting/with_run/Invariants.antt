@@ -1,9 +1,0 @@
--- Each message ends behind its direction, within the run.
-use Rattle.std.proofs.Common.{length, ◌-◌, ◌≤◌}
-use Rattle.traffic.proofs.counting.with_run.Given as goal
-
-abbrev pub invariant-loop-at : goal.invariant-loop-at
-invariant-loop-at l = l.at ≤ length l.run
-
-abbrev pub decreases-loop-at : goal.decreases-loop-at
-decreases-loop-at l = length l.run - l.at
