@@ -79,6 +79,10 @@ module _ (run : List ℕ) (at : ℕ) where
     pub step_gone : Gone run at → Gone run (at + n)
     step_gone g = rw (ap (λ j. j.place) here) (gone_more run at g (sym (ap (λ j. j.fault) here)))
 
+    -- .. so that the whole messages go on behind the place
+    pub step_further : at ≤ length run → Gone run at → at < (cut run).dwords
+    step_further l g = omega (arith, step_sizes l, gone_within run (at + n) (step_gone g))
+
   -- one that is not
   pub step_torn :
       (f : Fault) (p : ℕ) → wrong (figure f) p ≡ judged part → Gone run at → at < length run
@@ -133,18 +137,23 @@ module _ (run out out₀ : List ℕ) (at filled : ℕ) (g : Gone run at) (n : fi
           whole = gone_within run at g;
           size = n;
           front = so_far;
+          gone = λ z. absurd (omega arith);
+          short = λ z. absurd (omega arith);
           bad = λ z. (e, refl);
           all = λ z room. absurd (figure-not-0 f (e ∙ z));
         }
 
-    -- .. or has no room
-    pub put_full : (length (bytes_of_run run) ≤ length out₀ → ⊥) → PutTo (Err (ShortRoom filled)) out out₀ run
-    put_full h =
+    -- .. or, whole, has no room
+    pub put_full :
+        at < (cut run).dwords → (length (bytes_of_run run) ≤ length out₀ → ⊥) → PutTo (Err (ShortRoom filled)) out out₀ run
+    put_full l h =
         record {
           dwords = at;
           whole = gone_within run at g;
           size = n;
           front = so_far;
+          gone = λ z. absurd (omega arith);
+          short = λ z. l;
           bad = λ z. absurd (omega arith);
           all = λ z room. absurd (h room);
         }

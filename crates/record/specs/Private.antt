@@ -1,6 +1,6 @@
 -- How the code goes through a file: a message at a time, number by number. No public contract has these; that they come
 -- to what Files.antt says is proved (proofs/Found.antt).
-use Rattle.std.specs.Prelude.{ℕ, zero, suc, ◌+◌, ◌-◌, ◌*◌, ◌≤◌, ◌≡◌, not, ◌&&◌, cond, List, [], ◌∷◌, ◌++◌, length, get_or, take, drop, replicate, eqb, ltb}
+use Rattle.std.specs.Prelude.{ℕ, zero, suc, ◌+◌, ◌-◌, ◌*◌, ◌≤◌, ◌<◌, ◌≡◌, not, ◌&&◌, cond, List, [], ◌∷◌, ◌++◌, length, get_or, take, drop, replicate, eqb, ltb}
 use Rattle.std.specs.Prelude.{Result, Ok, Err}
 use Rattle.message.specs.Header.{total_length}
 use Rattle.record.specs.Faults.{too_long, bad_direction, bad_length, bad_header, figure}
@@ -158,13 +158,15 @@ abbrev pub MeasuredTo : Result ℕ Wrong → List ℕ → Type 0
 MeasuredTo (Ok size) run = ((cut run).fault ≡ 0) × (size ≡ length (bytes_of_run run))
 MeasuredTo (Err w) run = ((cut run).fault ≡ figure w.fault) × ((cut run).dwords ≡ w.place)
 
--- written: always the front of the run's whole messages; all of them where they are the run, and fit. Where 29 stops it,
--- it says what is wrong, and how far it got
+-- written: always the front of the run's whole messages; all of them where they are the run, and fit. 0 says that the run
+-- went, all of it; 30 that a whole message did not; 29 what is wrong behind the last, and how far it got
 pub record PutTo (r : Result ℕ WriteError) (after before run : List ℕ) : Type 0 where
   pub dwords : ℕ
   pub whole : dwords ≤ (cut run).dwords
   pub size : (of_written r).written ≡ length (bytes_of_run (take dwords run))
   pub front : after ≡ at_front (bytes_of_run (take dwords run)) before
+  pub gone : (of_written r).code ≡ 0 → dwords ≡ length run
+  pub short : (of_written r).code ≡ 30 → dwords < (cut run).dwords
   pub bad : (of_written r).code ≡ 29 → ((of_written r).fault ≡ (cut run).fault) × ((of_written r).at ≡ dwords)
   pub all :
       (cut run).fault ≡ 0 → length (bytes_of_run run) ≤ length before

@@ -11,7 +11,7 @@ use borrow.Rule.Slice.PartMut.{put_mid, same_len_mid}
 use Rattle.message.proofs.Slices.{to_end}
 use Rattle.record.specs.Numbers.{bytes_of_run}
 use Rattle.record.proofs.Slices.{filled_front, blank-length}
-use Rattle.record.proofs.Writes.{gone_none, step_sizes, step_gone, step_torn, bytes_next}
+use Rattle.record.proofs.Writes.{gone_none, step_sizes, step_gone, step_further, step_torn, bytes_next}
 use Rattle.record.proofs.Writes.{size-next, room_next, put_torn, put_full}
 use Rattle.record.proofs.writing.put_messages.Goals as goal
 use Rattle.record.proofs.writing.put_messages.Goals.{In-Ok, Else-not-has_bytes}
@@ -84,7 +84,8 @@ returns-then-not-has_bytes c =
     let xs = bytes_of_run (take (c.in-Ok.dwords - 0) c.take_first.new.copy) in
     let short : length l.out - l.filled < length xs = leb-false _ _ (sym c.has_bytes.ensures ∙ c.if-not-has_bytes.true) in
     let same = same_bytes (goal.at.returns-then-not-has_bytes c).In-Ok in
-    put_full run l.out c.args.out.now l.at l.filled l.invariant.4 l.invariant.5 l.invariant.6
+    let further = step_further run l.at _ c.in-Ok.ensures.answer l.invariant.0 l.invariant.4 in
+    put_full run l.out c.args.out.now l.at l.filled l.invariant.4 l.invariant.5 l.invariant.6 further
     (λ room. omega (arith, l.invariant.1, l.invariant.5, same, short, more, room))
 
 pub loop-at-smaller : goal.loop-at-smaller
