@@ -84,6 +84,12 @@ unfolding number_of
 number-first [] h = absurd (omega arith)
 number-first (b ∷ bs) h = sym (carried_none (form_of 4 (b ∷ bs)))
 
+-- a number of one byte
+pub one_group : (f : List ℕ) → 1 ≤ length f → get_or f 0 0 < 128 → number_of f ≡ good (get_or f 0 0) 1
+unfolding number_of form_of
+one_group [] h l = absurd (omega arith)
+one_group (b ∷ bs) h l = rw (lt-ltb b 128 l)
+
 module _ (f : List ℕ) (v w s : ℕ) where
   abbrev group : ℕ
   group = get_or f s 0

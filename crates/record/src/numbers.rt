@@ -34,16 +34,24 @@ fn ended(value: u32, weight: u32, size: usize, group: u8) -> Result<Form, Fault>
     })
 }
 
-// The number that bytes start with. Each byte is read once.
+// The number that bytes start with. Each byte is read once. One of a single byte, as most are, is told apart from the
+// others: the compiler then has nothing to reckon for it.
 pub(crate) fn number(bytes: &[u8]) -> Result<Form, Fault>
     ensures { of_form result ≡ number_of bytes.now }
 {
     if bytes.is_empty() {
         return Err(Fault::Missing);
     }
-    let mut value: u32 = 0;
-    let mut weight: u32 = 1;
-    for size in 0..4 {
+    let first = bytes[0];
+    if first < 128 {
+        return Ok(Form {
+            value: u32::from(first),
+            size: 1,
+        });
+    }
+    let mut value: u32 = u32::from(first) - 128;
+    let mut weight: u32 = 128;
+    for size in 1..4 {
         if bytes.len() <= size {
             return Err(Fault::Unfinished);
         }

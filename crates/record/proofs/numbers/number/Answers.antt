@@ -1,6 +1,6 @@
 -- `numbers::number` meets its contract: after some turns the number is that of the groups from here on, with those that
 -- were read carried. Assumes nothing.
-use Prim.Native.Nat.{◌-◌, ◌≤◌}
+use Prim.Native.Nat.{◌+◌, ◌-◌, ◌*◌, ◌≤◌}
 use mathlib.Core.Path.{◌≡◌, refl, sym, ap, ◌∙◌}
 use native.Mathlib.Omega.{arith}
 use borrow.Author.Tests.{eqb-true, eqb-false}
@@ -16,12 +16,25 @@ returns-then-is_empty c =
     let none : length f ≡ 0 = eqb-true (length f) 0 (sym c.if-is_empty.ensures) in
     sym (groups.number-none f none)
 
+pub returns-then-first-lt128 : goal.returns-then-first-lt128
+returns-then-first-lt128 c =
+    let f = c.args.bytes.now in
+    let some : length f ≡ 0 → ⊥ = eqb-false (length f) 0 (sym c.if-is_empty.ensures) in
+    rw c.from.ensures (sym (groups.one_group f (omega arith) c.if-first-lt128.true))
+
 pub loop-size-init : goal.loop-size-init
 loop-size-init c =
     let f = c.args.bytes.now in
     let some : length f ≡ 0 → ⊥ = eqb-false (length f) 0 (sym c.if-is_empty.ensures) in
     let there : 1 ≤ length f = omega arith in
-    (there, omega arith, refl, omega arith, groups.number-first f there)
+    let next = groups.next_group f 0 1 0 (omega arith) (omega arith) (omega arith) (omega arith) in
+    let v : 0 + 1 * (get_or f 0 0 - 128) ≡ get_or f 0 0 - 128 = omega arith in (
+      there,
+      omega arith,
+      refl,
+      omega (arith, c.from-value.ensures),
+      groups.number-first f there ∙ rw c.from-value.ensures (rw v at next),
+    )
 
 pub returns-then-bytes-size : goal.returns-then-bytes-size
 returns-then-bytes-size c =
@@ -44,8 +57,8 @@ loop-size-preserved c =
       omega arith,
       omega arith,
       rw l.invariant.2 b.2,
-      rw (l.invariant.2, c.from.ensures) b.0,
-      l.invariant.4 ∙ rw c.from.ensures next,
+      rw (l.invariant.2, c.from-in-loop-size.ensures) b.0,
+      l.invariant.4 ∙ rw c.from-in-loop-size.ensures next,
     )
 
 pub returns-then-bytes-le4 : goal.returns-then-bytes-le4
