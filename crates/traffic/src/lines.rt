@@ -5,7 +5,11 @@ use crate::run::{Messages, Recorded};
 use record::Direction;
 use std::alloc::Global;
 use std::io;
-use std::io::{BufWriter, Write};
+use std::io::Write;
+
+// So long a page is written before the next line: 4 KiB less the longest line, which has 89 columns behind its message's
+// number, of at most 20 digits, and its end. So whole lines are written at once, in pieces that a pipe keeps together.
+const FULL: usize = 3968;
 
 // Writes the lines of a run, whose first message comes behind so many.
 pub(crate) fn show_run(
@@ -15,7 +19,7 @@ pub(crate) fn show_run(
     before: u64,
     filter: Filter,
 ) -> io::Result<()> {
-    let mut page = BufWriter::new(alloc, io::writer(rt))?;
+    let mut page: Vec<u8> = Vec::new(alloc);
     let mut fields = String::new(alloc);
     let mut number = before;
     for m in Messages(run) {
@@ -25,9 +29,13 @@ pub(crate) fn show_run(
             fields.clear();
             write!(fields, "{meaning}")?;
             put_line(&mut page, number, m, meaning, fields.as_str())?;
+            if FULL <= page.len() {
+                io::writer(rt).write_all(&page)?;
+                page.clear();
+            }
         }
     }
-    page.flush()
+    io::writer(rt).write_all(&page)
 }
 
 // The line of a message: its number, direction, fence, type and fields, its L, its first payload dwords, and whether
