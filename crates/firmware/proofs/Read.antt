@@ -13,6 +13,7 @@ use Rattle.firmware.specs.Cpd
 use Rattle.firmware.specs.Private.{Keyed, entry_judged, part_judged, table_of, walked}
 use Rattle.firmware.specs.Private.{TableRead}
 use Rattle.firmware.proofs.Names.{keyed_agrees, keyed_walked}
+use Rattle.firmware.proofs.Search.{first-within}
 use Rattle.firmware.proofs.Count.{count_met, count_none}
 
 -- a directory judged
@@ -88,6 +89,13 @@ pub name-own :
 name-own b name e n z =
     let d = table-code b e in
     sym (name-refused b name n (rw d z) ∙ rw d)
+
+-- a walk from the first entry on ends behind the last one at most
+pub walk_ends : (b key : List ℕ) (start count : ℕ) {i : ℕ} → i ≡ walked b key start count 0 → i ≤ count
+unfolding walked
+walk_ends b key start count w =
+    let f = first-within (λ k. Cpd.agrees b key (start + 24 * k)) 0 (count - 0) in
+    omega (arith, w, f.1)
 
 -- the walks for a name that may be sought are over the entries of a directory that is accepted
 module _ (b name key : List ℕ) {t : TableRead} (n : Cpd.is_name name ≡ true) (h : Keyed name key) (e : t ≡ table_of b) where

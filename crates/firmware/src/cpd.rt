@@ -191,15 +191,19 @@ fn entry_located(blob: &[u8], t: Table, i: usize, shared: bool) -> Result<Locate
 }
 
 // The one judgement of a name sought in a directory: its number, or where its part lies. The second walk goes on behind
-// the entry found, so each entry's name is read at most once.
+// the entry found, so each entry's name is read at most once. Whether the first found one is asked behind both: asked
+// between them, the compiler readies the refusal's zeros at each entry.
 pub fn cpd_located(blob: &[u8], name: &[u8]) -> Result<Located, Refusal>
     ensures { of_located result ≡ Cpd.located blob.now name.now }
 {
     let key = key_of(name)?;
     let t = read_table(blob)?;
-    let i = found(blob, t, 0, key).ok_or(Refusal::NoEntry)?;
+    let i = walk(blob, t.start, t.count, 0, key);
     let behind = i + 1;
     let next = found(blob, t, behind, key);
+    if t.count <= i {
+        return Err(Refusal::NoEntry);
+    }
     entry_located(blob, t, i, next.is_some())
 }
 
