@@ -1,5 +1,5 @@
 // One command transport buffer (CTB) in one direction: its opening, and the steps and whole calls of its sender and its
-// receiver, with states by value.
+// receiver, in place or handed back.
 #![tactic(auto)]
 
 mod handing;

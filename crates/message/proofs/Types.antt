@@ -47,6 +47,17 @@ others-known word n =
     (λ e. simp e) (λ e. simp e) (λ e. simp e) (λ e. simp e)
     (λ e. absurd (n e)) (λ e. simp e) (λ e. simp e) (λ e. simp e)
 
+-- the type that is left where the others are ruled out
+pub else_success :
+    (word : ℕ) → known word ≡ true
+    → let t = field_of type word in
+    (t ≡ 0 → ⊥) → (t ≡ 1 → ⊥) → (t ≡ 2 → ⊥) → (t ≡ 3 → ⊥) → (t ≡ 5 → ⊥) → (t ≡ 6 → ⊥)
+    → t ≡ 7
+else_success word k n0 n1 n2 n3 n5 n6 =
+    by_type word
+    (λ e. absurd (n0 e)) (λ e. absurd (n1 e)) (λ e. absurd (n2 e)) (λ e. absurd (n3 e))
+    (λ e. absurd (type_4_unknown word k e)) (λ e. absurd (n5 e)) (λ e. absurd (n6 e)) (λ e. e)
+
 -- what is found for the number of a dword's type: known, or unknown
 pub known-found : (word : ℕ) (r : Result kind.Type UnknownType) → IsTypeOf (field_of type word) r → known word ≡ is_ok r
 unfolding known body_of bodies_from bodies of_type type_of some_body

@@ -1,6 +1,6 @@
 -- What a look needs of the descriptor, and offsets of the ring without a remainder. Assumes nothing.
 use Prim.Native.Nat.{ℕ, ◌+◌, ◌-◌, ◌≤◌, ◌<◌}
-use mathlib.Core.Path.{◌≡◌, refl, ◌∙◌}
+use mathlib.Core.Path.{◌≡◌, refl, sym, ◌∙◌}
 use mathlib.Core.Bool.{false, not, ◌&&◌}
 use native.Mathlib.Omega.{arith}
 use native.Mathlib.Nat.{mod-lt, mod-eq_of_lt, add-mod_right}
@@ -85,16 +85,20 @@ module _ (n own word status hd tl : ℕ) where
 -- a receive's look reads the header where the descriptor's number is 0: else that number is its answer, whatever the
 -- header
 module _ (n own st hd tl h : ℕ) where
-  pub by_descriptor : (r : Refusal) → number r ≡ pending_number n own st hd tl → number r ≡ receive_look_needs n own st hd tl h
+  pub by_descriptor : (c : ℕ) → pending_number n own st hd tl ≡ c → (c ≡ 0 → ⊥) → receive_look_needs n own st hd tl h ≡ c
   unfolding receive_look_needs pending_number need look_needs
-  by_descriptor r e =
+  by_descriptor c e z =
       cases (eqb st 0)
       (λ a. cases (ltb hd n && ltb tl n)
       (λ b. cases (eqb own hd)
-      (λ x. cases (eqb (used n hd tl) 0) (λ u. rw (a, b, x, u) (rw (a, b, x, u) at e)) (λ u. absurd (refuses r (rw (a, b, x, u) at e))))
+      (λ x. cases (eqb (used n hd tl) 0) (λ u. rw (a, b, x, u) (rw (a, b, x, u) at e)) (λ u. absurd (z (sym (rw (a, b, x, u) at e)))))
       (λ x. rw (a, b, x) (rw (a, b, x) at e)))
       (λ b. rw (a, b) (rw (a, b) at e)))
       (λ a. rw a (rw a at e))
+
+  -- .. as the code has it, by the reason
+  pub refused_by_descriptor : (r : Refusal) → number r ≡ pending_number n own st hd tl → number r ≡ receive_look_needs n own st hd tl h
+  refused_by_descriptor r e = sym (by_descriptor (number r) (sym e) (refuses r))
 
   module _ (e : pending_number n own st hd tl ≡ 0) where
     rest : ℕ

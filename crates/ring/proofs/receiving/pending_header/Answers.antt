@@ -5,7 +5,7 @@ use borrow.Author.Rules.{rules}
 use lib.ListN.{length, get_or}
 use Rattle.ring.specs.Private.{pending_number}
 use Rattle.ring.specs.Ring.{head, status, tail, used}
-use Rattle.ring.proofs.LookNeeds.{by_descriptor, torn, whole}
+use Rattle.ring.proofs.LookNeeds.{refused_by_descriptor, torn, whole}
 use Rattle.ring.proofs.Taken.{refused-header}
 use Rattle.ring.proofs.receiving.pending_header.Goals as goal
 use Rattle.ring.proofs.receiving.pending_header.Goals.{In_ok-used}
@@ -26,7 +26,7 @@ in_use :
 in_use c = simp (← c.dword_at-2.ensures, ← c.dword_at-3.ensures, ← c.wide-head.ensures, ← c.wide-tail.ensures) c.in_ok-used.ensures.in_use
 
 pub returns-in_err-used : goal.returns-in_err-used
-returns-in_err-used c = search (rules, refused-header, by_descriptor)
+returns-in_err-used c = search (rules, refused-header, refused_by_descriptor)
 
 pub returns-then-used-len : goal.returns-then-used-len
 returns-then-used-len c =
