@@ -3,6 +3,7 @@ pub mod Search
 pub mod Count
 pub mod Names
 pub mod Lies
+pub mod Manifest
 pub mod Read
 pub mod Nowhere
 pub mod Judged

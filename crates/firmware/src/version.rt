@@ -1,5 +1,8 @@
 // The versions of a CSS image, of a manifest in a directory, and of the image in one.
-ghost use Rattle.std.specs.Prelude.{◌≡◌};
+ghost use Rattle.std.specs.Prelude.{◌≡◌, MatchResult};
+ghost use Rattle.refusal.specs.Numbers.{number};
+ghost use Rattle.firmware.specs.Cpd;
+ghost use Rattle.firmware.specs.Inside.{manifest_name, part_named};
 ghost use Rattle.firmware.specs.Version.{of_version, of_manifest, css_reading, manifest_reading, huc_reading};
 ghost use Rattle.firmware.specs.Private.{manifest_in};
 
@@ -64,12 +67,22 @@ fn version_in(m: &[u8]) -> Result<ManifestVersion, Refusal>
     })
 }
 
-// The firmware version in the part `HUCP.man` of a directory.
+// The bytes of the part `HUCP.man` of a directory.
+fn manifest(blob: &[u8]) -> Result<&[u8], Refusal>
+    ensures { MatchResult result
+        (λ m. (Cpd.number blob.now manifest_name ≡ 0) × (m.now ≡ part_named blob.now manifest_name))
+        (λ r. Cpd.number blob.now manifest_name ≡ number r) }
+{
+    let f = cpd_located(blob, b"HUCP.man")?;
+    Ok(f.part_of(blob))
+}
+
+// The firmware version in it.
+#[tactic(auto, using(crate::proofs::Manifest::refused_reading, crate::proofs::Manifest::found_reading))]
 pub fn manifest_version(blob: &[u8]) -> Result<ManifestVersion, Refusal>
     ensures { of_manifest result ≡ manifest_reading blob.now }
 {
-    let f = cpd_located(blob, b"HUCP.man")?;
-    version_in(f.part_of(blob))
+    version_in(manifest(blob)?)
 }
 
 // The version of the image in the part `huc_fw` of a directory.

@@ -1,7 +1,7 @@
 // Packing and unpacking for C: a message as six numbers.
 ghost use Rattle.std.specs.Prelude.{◌≡◌};
 ghost use Rattle.std.proofs.Math.Option.{some};
-ghost use Rattle.message.specs.Types.{carried, type_number};
+ghost use Rattle.message.specs.Types.{carried, type_number, type_of};
 ghost use Rattle.message.specs.Packing.{unpack_answer, origin_of, pack_answer};
 ghost use Rattle.guc.specs.Messages.{body_for, spare, not_packed, packing, packed_by, nth, said_by, unpacked_by};
 
@@ -131,33 +131,34 @@ pub extern "C" fn guc_pack(
     }
 }
 
-// The fields of a body as two numbers; 0 for a second one that its type does not have.
-#[tactic(auto, unfolding(crate::specs::Messages::nth, message::specs::Types::carried))]
-fn fields(b: Body) -> (u32, u32)
-    ensures { result ≡ (nth 0 (carried b), nth 1 (carried b)) }
+// The type of a body and its fields, as numbers; 0 for a second field that its type does not have.
+#[tactic(auto, unfolding(crate::specs::Messages::nth, message::specs::Types::carried, message::specs::Types::type_of))]
+fn numbers(b: Body) -> (u32, u32, u32)
+    ensures { result ≡ (type_of b, nth 0 (carried b), nth 1 (carried b)) }
 {
     match b {
-        Body::Request { data, action } => (data, action),
-        Body::Event { data, action } => (data, action),
-        Body::FastRequest { data, action } => (data, action),
-        Body::Busy { counter } => (counter, 0),
-        Body::Retry { reason } => (reason, 0),
-        Body::Failure { hint, error } => (hint, error),
-        Body::Success { data } => (data, 0),
+        Body::Request { data, action } => (Type::Request as u32, data, action),
+        Body::Event { data, action } => (Type::Event as u32, data, action),
+        Body::FastRequest { data, action } => (Type::FastRequest as u32, data, action),
+        Body::Busy { counter } => (Type::Busy as u32, counter, 0),
+        Body::Retry { reason } => (Type::Retry as u32, reason, 0),
+        Body::Failure { hint, error } => (Type::Failure as u32, hint, error),
+        Body::Success { data } => (Type::Success as u32, data, 0),
     }
 }
 
 // What a decoded message says, in numbers.
+#[tactic(auto, unfolding(crate::specs::Messages::said_by))]
 fn decoded(m: Message) -> Unpacked
     ensures { result ≡ said_by m }
 {
-    let (first, second) = fields(m.body);
+    let (hxg_type, first, second) = numbers(m.body);
     Unpacked {
         code: 0,
         origin: u32::from(m.origin),
         fence: m.fence,
         num_dwords: m.num_dwords,
-        hxg_type: u32::from(m.body.kind()),
+        hxg_type,
         first,
         second,
     }
